@@ -1,0 +1,9 @@
+pub mod CallFronts
+pub mod CallLines
+pub mod Decimals
+pub mod LineTexts
+pub mod Operands
+pub mod ReadLines
+pub mod SheetFronts
+pub mod SheetLaws
+pub mod Words

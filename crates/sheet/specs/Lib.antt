@@ -1,0 +1,10 @@
+pub mod CallLists
+pub mod Fields
+pub mod Laws
+pub mod Limits
+pub mod Lines
+pub mod Numbers
+pub mod Outcomes
+pub mod Places
+pub mod Readings
+pub mod Texts
