@@ -1,10 +1,32 @@
 ghost use Rattle.std.specs.Vec.{made};
+ghost use mathlib.Core.Path.{_≡_};
 ghost use Rattle.sheet.specs.Readings.{ReadsCall, ReadsCallLine};
+ghost use Rattle.sheet.specs.Texts.{callLetter};
 use crate::cursor::Cursor;
 use crate::line::read_line;
 use book::Call;
 use book::Kind;
 use std::alloc::AllocError;
+
+// The letter that the call's line begins with.
+pub fn call_letter(call: &Call) -> char
+    ensures { λ r. ⌜ r ≡ callLetter (now (call .entry)) ⌝ }
+{
+    match call {
+        Call::Open {
+            kind: Kind::Reader,
+            ..
+        } => 'r',
+        Call::Open {
+            kind: Kind::Writer,
+            ..
+        } => 'w',
+        Call::Get { .. } => 'g',
+        Call::Put { .. } => 'p',
+        Call::End { .. } => 'e',
+        Call::Step { .. } => 's',
+    }
+}
 
 // The call that a line with this letter and these numbers writes, if it writes one.
 fn call_of(letter: char, numbers: &[u32]) -> Option<Call>

@@ -8,6 +8,7 @@ mod line;
 mod numeral;
 mod reading;
 
+pub use call::call_letter;
 pub use cursor::Cursor;
 pub use error::ReadError;
 pub use error::ReadErrorFromAlloc;

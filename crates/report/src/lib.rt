@@ -1,0 +1,5 @@
+// What the program says of a sheet: one function from the bytes of the sheet to the text of the answer.
+mod answer;
+mod summary;
+
+pub use answer::of_sheet;
