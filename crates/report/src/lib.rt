@@ -3,3 +3,6 @@ mod answer;
 mod summary;
 
 pub use answer::of_sheet;
+
+#[cfg(test)]
+mod tests;

@@ -1,20 +1,27 @@
 -- What the text of a number of 32 bits looks like, and that such a text is the one of its value.
+use mathlib.Core.Bool.{true, not, _&&_}
 use mathlib.Core.Path.{_≡_, sym, ap, subst, _∙_}
 use mathlib.Core.List.{List}
 use mathlib.Core.Logic.{⊎-elim}
 use Prim.Native.Nat.{ℕ, _+_, _-_, _*_, _^_, _≤_, _<_}
 use native.Mathlib.Omega.{arith}
 use borrow.Author.Needs.{needs}
+use lib.Dec.{eqb, leb}
 use lib.ListN.{length, getD, take, length-take}
 use Rattle.std.proofs.shelf.Decimals.{decimal-some, decimal-digit, first-decimal, length-decimal-le, digits-decimal, value-decimal, decimal-value}
 use Rattle.std.proofs.shelf.Digits.{value-more, digits-more}
-use Rattle.std.proofs.shelf.Numerals.{Numerals, numerals-by-value, tells-digits, value-short}
-use Rattle.std.proofs.shelf.Tests.{cases-lt}
+use Rattle.std.proofs.shelf.Numerals.{Numerals, digit-at, numerals-by-value, tells-digits, value-short}
+use Rattle.std.proofs.shelf.Tests.{and-from, and-parts, both-ways, cases-eq, cases-lt, eq-eqb, eqb-false, eqb-true, le-leb, leb-true, ne-eqb, not-from-false, not-true, or-cases, or-left, or-right}
 use Rattle.std.proofs.shelf.Ways.{tells}
+use Rattle.std.specs.declared.result.Result.{Result}
+use Rattle.std.specs.declared.result.Result.the-variants.{Ok, Err}
+use Rattle.std.specs.Numbers.{Converted}
 use Rattle.std.specs.Reads.{Digits, value}
+use Rattle.std.specs.Results.{okPart}
 use Rattle.std.specs.Text.{digitValue}
 use Rattle.std.specs.Written.{decimal}
-use Rattle.sheet.specs.Numbers.{Fits32}
+use Rattle.sheet.specs.Fields.{digit}
+use Rattle.sheet.specs.Numbers.{Fits32, ReadsNumber, numberShape}
 
 pub own : Numerals (Digits 10) (value 10)
 own = numerals-by-value (Digits 10) tells-digits
@@ -69,3 +76,37 @@ summed-more bs i v within low high h =
       digits = digits-more 10 bs i within (h .digits) (omega arith);
       means = ap (λ (w : ℕ). w * 10 + (getD bs i 0 - 48)) (h .means) ∙ ap (λ (d : ℕ). value 10 (take i bs) * 10 + d) (sym is) ∙ sym (value-more 10 bs i within);
     }
+
+-- the text of a number has the shape of one
+pub shape-spelled : (bs : List ℕ) (n : ℕ) → Spelled bs n → numberShape bs ≡ true
+shape-spelled bs n s =
+    ⊎-elim (λ (one : length bs ≡ 1). or-left (eqb (length bs) 1) _ (eq-eqb _ 1 one))
+    (λ (more : length bs ≡ 1 → ⊥). or-right (eqb (length bs) 1) _ (and-from _ _ (and-from _ _ (le-leb 1 _ (s .some)) (le-leb _ 10 (s .few))) (not-from-false _ (ne-eqb _ 48 (λ e. more (s .plain e))))))
+    (cases-eq (length bs) 1)
+
+-- what the shape says
+pub shape-parts : (bs : List ℕ) → numberShape bs ≡ true → (0 < length bs) × (length bs ≤ 10) × (getD bs 0 0 ≡ 48 → length bs ≡ 1)
+shape-parts bs h =
+    ⊎-elim (λ one. let e = eqb-true (length bs) 1 one in (omega arith, omega arith, λ _. e))
+    (λ long.
+    let parts = and-parts (leb 1 (length bs) && leb (length bs) 10) (not (eqb (getD bs 0 0) 48)) long in
+    let sizes = and-parts (leb 1 (length bs)) (leb (length bs) 10) (parts .0) in
+    (leb-true 1 _ (sizes .0), leb-true _ 10 (sizes .1), λ e. absurd (eqb-false _ 48 (not-true _ (parts .1)) e)))
+    (or-cases (eqb (length bs) 1) (leb 1 (length bs) && leb (length bs) 10 && not (eqb (getD bs 0 0) 48)) h)
+
+digit-true : (b : ℕ) → 48 ≤ b → b ≤ 57 → digit b ≡ true
+digit-true b low high = and-from _ _ (le-leb 48 b low) (le-leb b 57 high)
+
+pub digit-parts : (b : ℕ) → digit b ≡ true → (48 ≤ b) × (b ≤ 57)
+digit-parts b h = let parts = and-parts (leb 48 b) (leb b 57) h in (leb-true 48 b (parts .0), leb-true b 57 (parts .1))
+
+pub spelled-digit : (bs : List ℕ) (n i : ℕ) → Spelled bs n → i < length bs → digit (getD bs i 0) ≡ true
+spelled-digit bs n i s within = let range = digit-at bs i (s .digits) within in digit-true _ (range .0) (range .1)
+
+-- digits of the right shape write their value, and it is read where it has 32 bits
+pub reads-value : {E : Type 0} (bs : List ℕ) (v : ℕ) (r : Result ℕ E) → numberShape bs ≡ true → Digits 10 bs → v ≡ value 10 bs → Converted r (Fits32 v) v → ReadsNumber bs (okPart r)
+reads-value bs v (Ok x) shape digits means (fits, same) =
+    let parts = shape-parts bs shape in
+    let text = text-of-value bs digits (parts .0) (parts .2) (omega arith) in
+    (omega arith, text ∙ ap decimal (sym means ∙ sym same))
+reads-value bs v (Err _) shape digits means too-large = λ n fits e. too-large (omega (arith, spelled-out bs n fits e .means))

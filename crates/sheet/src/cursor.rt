@@ -1,4 +1,5 @@
 mod moves;
+mod places;
 
 ghost use Prim.Native.Nat.{_+_, _≤_};
 ghost use lib.ListN.{length};

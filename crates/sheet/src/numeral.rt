@@ -1,28 +1,38 @@
-ghost use Rattle.sheet.specs.Numbers.{ReadsNumber};
+ghost use mathlib.Core.Path.{_≡_};
+ghost use lib.ListN.{length};
+ghost use Rattle.sheet.specs.Fields.{digit};
+ghost use Rattle.sheet.specs.Numbers.{ReadsNumber, numberShape};
 
 // The longest number, 4294967295, has ten digits.
 const MAX_DIGITS: usize = 10;
+
+pub(crate) fn is_digit(b: u8) -> bool
+    ensures { λ r. ⌜ r ≡ digit b ⌝ }
+{
+    b >= b'0' && b <= b'9'
+}
+
+// Whether the bytes are neither too few nor too many, and do not begin with a zero that leads.
+fn has_number_shape(digits: &[u8]) -> bool
+    ensures { λ r. ⌜ r ≡ numberShape (now (digits .entry)) ⌝ }
+{
+    let len = digits.len();
+    len == 1 || len >= 1 && len <= MAX_DIGITS && digits[0] != b'0'
+}
 
 // The number that these bytes write in decimal digits, without a leading zero, if they write one of 32 bits.
 pub fn number(digits: &[u8]) -> Option<u32>
     ensures { λ r. ⌜ ReadsNumber (now (digits .entry)) r ⌝ }
 {
-    let len = digits.len();
-    if len == 0 || len > MAX_DIGITS {
-        return None;
-    }
-    if digits[0] == b'0' && len > 1 {
+    if !has_number_shape(digits) {
         return None;
     }
     let mut value: u64 = 0;
     for b in digits {
-        if *b < b'0' || *b > b'9' {
+        if !is_digit(*b) {
             return None;
         }
         value = value * 10 + u64::from(*b - b'0');
     }
-    if value > 4_294_967_295 {
-        return None;
-    }
-    Some(value as u32)
+    u32::try_from(value).ok()
 }

@@ -1,38 +1,13 @@
 ghost use mathlib.Core.Bool.{cond};
 ghost use mathlib.Core.Path.{_≡_};
-ghost use lib.Dec.{eqb};
-ghost use lib.ListN.{length};
 ghost use Rattle.sheet.specs.Fields.{ReadsField, startsWith, wordLength};
-ghost use Rattle.sheet.specs.Places.{rest, AtStart, Moved};
+ghost use Rattle.sheet.specs.Places.{rest, Moved};
 use super::Cursor;
 use crate::field::Field;
 use crate::field::word_end;
+use crate::numeral::is_digit;
 
 impl<'a> Cursor<'a> {
-    // The first place of a sheet.
-    pub fn new(sheet: &'a [u8]) -> Cursor<'a>
-        ensures { λ r. ⌜ AtStart (now (sheet .entry)) r ⌝ }
-    {
-        Cursor {
-            sheet,
-            place: 0,
-            line: 1,
-        }
-    }
-
-    pub fn at_end(&self) -> bool
-        ensures { λ r. ⌜ r ≡ eqb (length (rest (now (self .entry)))) 0 ⌝ }
-    {
-        self.place == self.sheet.len()
-    }
-
-    // The number of the line that the place is on, counted from 1.
-    pub fn line(&self) -> usize
-        ensures { λ r. ⌜ r ≡ now (self .entry) .line ⌝ }
-    {
-        self.line
-    }
-
     fn next_is(&self, byte: u8) -> bool
         ensures { λ r. ⌜ r ≡ startsWith byte (rest (now (self .entry))) ⌝ }
     {
@@ -75,7 +50,7 @@ impl<'a> Cursor<'a> {
         self.place = end;
         match word {
             [] => None,
-            [b] if *b < b'0' || *b > b'9' => Some(Field::Letter(word)),
+            [b] if !is_digit(*b) => Some(Field::Letter(word)),
             _ => Some(Field::Number(word)),
         }
     }

@@ -1,7 +1,11 @@
 ghost use Rattle.std.specs.Results.{Cases};
-ghost use Rattle.std.specs.Of.Vec.{vec-items};
+ghost use mathlib.Core.Path.{_≡_};
+ghost use lib.Dec.{eqb, ltb};
+ghost use lib.ListN.{length};
+ghost use Rattle.std.specs.Of.Vec.{vec-items, vec-len};
 ghost use Rattle.sheet.specs.CallLists.{AllCalls, StopsCalls};
 ghost use Rattle.sheet.specs.Laws.{ReadingLaws};
+ghost use Rattle.sheet.specs.Limits.{maxBytes, maxCalls};
 ghost use Rattle.sheet.specs.Outcomes.{Fails, Reads, content, readable};
 ghost use Rattle.sheet.specs.Places.{rest};
 use super::Sheet;
@@ -19,12 +23,24 @@ const MAX_BYTES: usize = 16_384;
 
 const MAX_CALLS: usize = 1024;
 
+fn too_long(bytes: &[u8]) -> bool
+    ensures { λ r. ⌜ r ≡ ltb maxBytes (length (now (bytes .entry))) ⌝ }
+{
+    bytes.len() > MAX_BYTES
+}
+
+fn is_full(calls: &Vec<Call>) -> bool
+    ensures { λ r. ⌜ r ≡ eqb (vec-len (now (calls .entry))) maxCalls ⌝ }
+{
+    calls.len() == MAX_CALLS
+}
+
 // Reads a sheet from its first byte to its last.
 pub fn read(heap: Global, bytes: &[u8]) -> Result<Sheet, ReadError>
     ensures outcome { λ r. ⌜ Cases r (λ s. Reads (now (bytes .entry)) (readable (content s))) (λ e. Fails (now (bytes .entry)) e) ⌝ }
     ensures laws { λ _. ⌜ ReadingLaws ⌝ }
 {
-    if bytes.len() > MAX_BYTES {
+    if too_long(bytes) {
         return Err(ReadError::Declined(Refusal::SheetTooLong));
     }
     let mut cursor = Cursor::new(bytes);
@@ -46,7 +62,7 @@ fn read_calls(
 {
     let mut calls = Vec::new(heap);
     while !cursor.at_end() {
-        if calls.len() == MAX_CALLS {
+        if is_full(&calls) {
             return Err(ReadError::Declined(Refusal::SheetTooLong));
         }
         let line = cursor.line();

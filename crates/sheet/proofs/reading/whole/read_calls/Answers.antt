@@ -9,15 +9,16 @@ use Rattle.std.proofs.shelf.Results.{err-from-errBy}
 use Rattle.std.proofs.shelf.Tests.{eqb-true, eqb-false}
 use Rattle.std.specs.Of.Vec.{vec-items}
 use Rattle.sheet.specs.CallLists.{too-many-calls, no-memory}
+use Rattle.sheet.specs.Limits.{maxCalls}
 use Rattle.sheet.specs.Places.{rest}
 use Rattle.sheet.specs.Texts.{callsText}
 use Rattle.sheet.proofs.CallFronts.{front-push, stops-at}
 use Rattle.sheet.proofs.reading.whole.read_calls.Needs as need
 
-pub returns-then-len-eq-MAX-CALLS : need.returns-then-len-eq-MAX-CALLS
-returns-then-len-eq-MAX-CALLS c =
+pub returns-then-is-full : need.returns-then-is-full
+returns-then-is-full c =
     let more = eqb-false _ 0 (sym (c .loop-calls-test .ensures tt)) in
-    too-many-calls _ _ (c .loop-calls .inv .0) (omega (arith, c .loop-calls .calls .ok .0)) (omega arith)
+    too-many-calls _ _ (c .loop-calls .inv .0) (omega (arith, eqb-true _ maxCalls (sym (c .if-is-full .ensures tt)), c .loop-calls .calls .ok .0)) (omega arith)
 
 pub returns-in-Break-call : need.returns-in-Break-call
 returns-in-Break-call c = let p = err-from-errBy (c .from-residual .result) (c .from-residual .ensures .1) in rw (p .1, p .2) no-memory
@@ -26,7 +27,7 @@ pub returns-in-rest : need.returns-in-rest
 returns-in-rest c =
     let more = eqb-false _ 0 (sym (c .loop-calls-test .ensures tt)) in
     let none = rw (c .in-rest .is) at (c .in-Continue-call .ensures tt) in
-    stops-at _ _ _ _ _ (c .loop-calls .inv .0) (omega (arith, c .loop-calls .calls .ok .0)) (omega arith) none (c .line-line .ensures ∙ c .loop-calls .inv .2)
+    stops-at _ _ _ _ _ (c .loop-calls .inv .0) (omega (arith, eqb-false _ maxCalls (sym (c .if-is-full .ensures tt)), c .loop-calls .calls .ok .0)) (omega arith) none (c .line-line .ensures ∙ c .loop-calls .inv .2)
 
 pub loop-calls-less : need.loop-calls-less
 loop-calls-less c =
@@ -38,7 +39,7 @@ loop-calls-again c =
     let call = rw (c .in-Some .is) at (c .in-Continue-call .ensures tt) in
     let long = length-push (vec-items (c .loop-calls .calls)) (c .in-Some .call) in
     rw (c .in-Continue-push .ensures tt .items)
-    (front-push _ _ _ _ _ (c .loop-calls .inv .0) (call .0) (call .1 .split), omega (arith, long, c .loop-calls .calls .ok .0), omega (arith, long, call .1 .line, c .loop-calls .inv .2))
+    (front-push _ _ _ _ _ (c .loop-calls .inv .0) (call .0) (call .1 .split), omega (arith, long, eqb-false _ maxCalls (sym (c .if-is-full .ensures tt)), c .loop-calls .calls .ok .0), omega (arith, long, call .1 .line, c .loop-calls .inv .2))
 
 pub returns-in-Break-push : need.returns-in-Break-push
 returns-in-Break-push c = let p = err-from-errBy (c .from-residual-in-Break-push .result) (c .from-residual-in-Break-push .ensures .1) in rw (p .1, p .2) no-memory
