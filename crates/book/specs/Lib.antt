@@ -1,1 +1,12 @@
+pub mod Calls
+pub mod Effects
+pub mod Histories
+pub mod Law
+pub mod Meaning
+pub mod Progress
 pub mod Refusals
+pub mod Replays
+pub mod Runs
+pub mod Sizes
+pub mod Transactions
+pub mod Writes

@@ -1,7 +1,20 @@
-// The vocabulary of a cell book: who opens a transaction, what can be called, and why a call is declined.
+// A cell book: its vocabulary, its meaning, what an engine of it promises, and the law of every list of calls.
+mod answer;
 mod call;
 mod refusal;
 
+pub use answer::Answer;
+pub use answer::AnswerDebug;
+pub use answer::AnswerEq;
+pub use answer::AnswerPartialEq;
+pub use answer::Standing;
+pub use answer::StandingDebug;
+pub use answer::StandingEq;
+pub use answer::StandingPartialEq;
+pub use answer::Word;
+pub use answer::WordDebug;
+pub use answer::WordEq;
+pub use answer::WordPartialEq;
 pub use call::Call;
 pub use call::CallDebug;
 pub use call::CallEq;

@@ -1,0 +1,10 @@
+pub mod Acts
+pub mod Extensions
+pub mod Growing
+pub mod LawOfRuns
+pub mod Places
+pub mod Requests
+pub mod Snapshots
+pub mod Tied
+pub mod Told
+pub mod WriteSets
