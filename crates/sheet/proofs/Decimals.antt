@@ -1,7 +1,7 @@
 -- What the text of a number of 32 bits looks like, and that such a text is the one of its value.
 use mathlib.Core.Bool.{true, not, _&&_}
-use mathlib.Core.Path.{_≡_, sym, ap, subst, _∙_}
-use mathlib.Core.List.{List}
+use mathlib.Core.Path.{_≡_, refl, sym, ap, subst, _∙_}
+use mathlib.Core.List.{List, [], _∷_}
 use mathlib.Core.Logic.{⊎-elim}
 use Prim.Native.Nat.{ℕ, _+_, _-_, _*_, _^_, _≤_, _<_}
 use native.Mathlib.Omega.{arith}
@@ -11,7 +11,7 @@ use lib.ListN.{length, getD, take, length-take}
 use Rattle.std.proofs.shelf.Decimals.{decimal-some, decimal-digit, first-decimal, length-decimal-le, digits-decimal, value-decimal, decimal-value}
 use Rattle.std.proofs.shelf.Digits.{value-more, digits-more}
 use Rattle.std.proofs.shelf.Numerals.{Numerals, digit-at, numerals-by-value, tells-digits, value-short}
-use Rattle.std.proofs.shelf.Tests.{and-from, and-parts, both-ways, cases-eq, cases-lt, eq-eqb, eqb-false, eqb-true, le-leb, leb-true, ne-eqb, not-from-false, not-true, or-cases, or-left, or-right}
+use Rattle.std.proofs.shelf.Tests.{and-from, and-parts, cases-lt, eqb-false, false≢true, le-leb, leb-true, ne-eqb, not-from-false, not-true}
 use Rattle.std.proofs.shelf.Ways.{tells}
 use Rattle.std.specs.declared.result.Result.{Result}
 use Rattle.std.specs.declared.result.Result.the-variants.{Ok, Err}
@@ -79,20 +79,17 @@ summed-more bs i v within low high h =
 
 -- the text of a number has the shape of one
 pub shape-spelled : (bs : List ℕ) (n : ℕ) → Spelled bs n → numberShape bs ≡ true
-shape-spelled bs n s =
-    ⊎-elim (λ (one : length bs ≡ 1). or-left (eqb (length bs) 1) _ (eq-eqb _ 1 one))
-    (λ (more : length bs ≡ 1 → ⊥). or-right (eqb (length bs) 1) _ (and-from _ _ (and-from _ _ (le-leb 1 _ (s .some)) (le-leb _ 10 (s .few))) (not-from-false _ (ne-eqb _ 48 (λ e. more (s .plain e))))))
-    (cases-eq (length bs) 1)
+shape-spelled [] n s = absurd (omega (arith, s .some))
+shape-spelled (b ∷ []) n s = refl
+shape-spelled (b ∷ c ∷ bs) n s = and-from (not (eqb b 48)) (leb (length (b ∷ c ∷ bs)) 10) (not-from-false (eqb b 48) (ne-eqb b 48 (λ e. omega (arith, s .plain e)))) (le-leb _ 10 (s .few))
 
 -- what the shape says
 pub shape-parts : (bs : List ℕ) → numberShape bs ≡ true → (0 < length bs) × (length bs ≤ 10) × (getD bs 0 0 ≡ 48 → length bs ≡ 1)
-shape-parts bs h =
-    ⊎-elim (λ one. let e = eqb-true (length bs) 1 one in (omega arith, omega arith, λ _. e))
-    (λ long.
-    let parts = and-parts (leb 1 (length bs) && leb (length bs) 10) (not (eqb (getD bs 0 0) 48)) long in
-    let sizes = and-parts (leb 1 (length bs)) (leb (length bs) 10) (parts .0) in
-    (leb-true 1 _ (sizes .0), leb-true _ 10 (sizes .1), λ e. absurd (eqb-false _ 48 (not-true _ (parts .1)) e)))
-    (or-cases (eqb (length bs) 1) (leb 1 (length bs) && leb (length bs) 10 && not (eqb (getD bs 0 0) 48)) h)
+shape-parts [] h = absurd (false≢true h)
+shape-parts (b ∷ []) h = (omega arith, omega arith, λ _. refl)
+shape-parts (b ∷ c ∷ bs) h =
+    let parts = and-parts (not (eqb b 48)) (leb (length (b ∷ c ∷ bs)) 10) h in
+    (omega arith, leb-true _ 10 (parts .1), λ e. absurd (eqb-false b 48 (not-true _ (parts .0)) e))
 
 digit-true : (b : ℕ) → 48 ≤ b → b ≤ 57 → digit b ≡ true
 digit-true b low high = and-from _ _ (le-leb 48 b low) (le-leb b 57 high)

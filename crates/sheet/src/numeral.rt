@@ -16,8 +16,11 @@ pub(crate) fn is_digit(b: u8) -> bool
 fn has_number_shape(digits: &[u8]) -> bool
     ensures { λ r. ⌜ r ≡ numberShape (now (digits .entry)) ⌝ }
 {
-    let len = digits.len();
-    len == 1 || len >= 1 && len <= MAX_DIGITS && digits[0] != b'0'
+    match digits {
+        [] => false,
+        [_] => true,
+        [first, ..] => *first != b'0' && digits.len() <= MAX_DIGITS,
+    }
 }
 
 // The number that these bytes write in decimal digits, without a leading zero, if they write one of 32 bits.
