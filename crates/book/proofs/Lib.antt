@@ -1,9 +1,12 @@
 pub mod Acts
+pub mod EngineCalls
 pub mod Extensions
+pub mod FreeSeats
 pub mod Growing
 pub mod LawOfRuns
 pub mod Places
 pub mod Requests
+pub mod Running
 pub mod Snapshots
 pub mod Tied
 pub mod Told

@@ -1,9 +1,11 @@
 pub mod Calls
 pub mod Effects
+pub mod Engines
 pub mod Histories
 pub mod Law
 pub mod Meaning
 pub mod Progress
+pub mod Ran
 pub mod Refusals
 pub mod Replays
 pub mod Runs

@@ -1,7 +1,9 @@
 // A cell book: its vocabulary, its meaning, what an engine of it promises, and the law of every list of calls.
 mod answer;
 mod call;
+mod engine;
 mod refusal;
+mod runner;
 
 pub use answer::Answer;
 pub use answer::AnswerDebug;
@@ -24,7 +26,12 @@ pub use call::KindDebug;
 pub use call::KindEq;
 pub use call::KindPartialEq;
 pub use call::Value;
+pub use engine::Engine;
+pub use engine::MAX_CELLS;
+pub use engine::SEATS;
 pub use refusal::Refusal;
 pub use refusal::RefusalDebug;
 pub use refusal::RefusalEq;
 pub use refusal::RefusalPartialEq;
+pub use runner::call_on;
+pub use runner::run;

@@ -16,7 +16,7 @@ fn declined(heap: Global, refusal: Refusal) -> Result<String, AllocError>
     let number = refusal.number();
     match refusal {
         Refusal::UnreadableLine { line } => format!(heap, "no {number} {line}\n"),
-        Refusal::SheetTooLong => format!(heap, "no {number}\n"),
+        _ => format!(heap, "no {number}\n"),
     }
 }
 
