@@ -10,4 +10,5 @@ pub mod Running
 pub mod Snapshots
 pub mod Tied
 pub mod Told
+pub mod WriteSearch
 pub mod WriteSets

@@ -1,4 +1,5 @@
 pub mod Calls
+pub mod Distinct
 pub mod Effects
 pub mod Engines
 pub mod Histories
@@ -11,4 +12,5 @@ pub mod Replays
 pub mod Runs
 pub mod Sizes
 pub mod Transactions
+pub mod WriteSets
 pub mod Writes

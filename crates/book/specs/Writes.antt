@@ -6,14 +6,15 @@ use lib.Dec.{eqb}
 use lib.ListN.{set}
 use Rattle.std.specs.declared.option.Option.{Option}
 use Rattle.std.specs.declared.option.Option.the-variants.{None, Some}
+use Rattle.book.specs.declared.write.Write.{Write as CodeWrite}
 
 -- what a cell holds
 abbrev pub CellValue : Type 0
 CellValue = ℕ
 
-pub record Write : Type 0 where
-  pub cell : ℕ
-  pub value : CellValue
+-- a cell with the value put to it
+abbrev pub Write : Type 0
+Write = CodeWrite
 
 -- the value that the first entry for a cell has
 abbrev pub written : ℕ → List Write → Option CellValue

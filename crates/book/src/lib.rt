@@ -4,6 +4,8 @@ mod call;
 mod engine;
 mod refusal;
 mod runner;
+mod write;
+mod write_set;
 
 pub use answer::Answer;
 pub use answer::AnswerDebug;
@@ -35,3 +37,7 @@ pub use refusal::RefusalEq;
 pub use refusal::RefusalPartialEq;
 pub use runner::call_on;
 pub use runner::run;
+pub use write::Write;
+pub use write_set::MAX_WRITES;
+pub use write_set::WriteEntry;
+pub use write_set::WriteSet;
