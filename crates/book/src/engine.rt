@@ -19,6 +19,9 @@ pub const SEATS: u32 = 8;
 // A book has at least one cell and at most this many.
 pub const MAX_CELLS: usize = 64;
 
+// The largest number of the latest cells.
+pub const MAX_NUMBER: u32 = 2_147_483_647;
+
 pub trait Engine: Sized {
     // The most steps, but for those that wait, that one request takes.
     const BOUND: u32;

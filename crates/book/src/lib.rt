@@ -30,6 +30,7 @@ pub use call::KindPartialEq;
 pub use call::Value;
 pub use engine::Engine;
 pub use engine::MAX_CELLS;
+pub use engine::MAX_NUMBER;
 pub use engine::SEATS;
 pub use refusal::Refusal;
 pub use refusal::RefusalDebug;

@@ -2,7 +2,7 @@ ghost use mathlib.Core.Bool.{cond};
 ghost use mathlib.Core.List.{[]};
 ghost use mathlib.Core.Path.{_≡_};
 ghost use lib.Dec.{eqb};
-ghost use Rattle.book.specs.WriteSets.{Position, entries, hasRoom};
+ghost use Rattle.book.specs.WriteSets.{Position, entries, hasRoom, lacksRoom};
 ghost use Rattle.book.specs.Writes.{withPut, written};
 use super::MAX_WRITES;
 use super::WriteSet;
@@ -51,6 +51,13 @@ impl WriteSet {
     {
         let found = self.position(cell)?;
         Some(self.writes[found].value)
+    }
+
+    // Whether a put of the cell would be one cell too many.
+    pub fn is_full_for(&self, cell: u32) -> bool
+        ensures { λ r. ⌜ r ≡ lacksRoom cell (entries (now (self .entry))) ⌝ }
+    {
+        self.get(cell).is_none() && self.as_slice().len() >= MAX_WRITES
     }
 
     // Adds a put, if there is room for its cell.
