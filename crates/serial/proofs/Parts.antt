@@ -34,11 +34,11 @@ module _ (st : State) (sized : length (st .waiting) ≡ 8) where
   part-by None within s place = getD-map waitingPart (st .waiting) s None None (omega arith)
   part-by (Some t) within s place =
       elim (cases-bool (eqb (t .seat) s)) [
-        inl on ↦
-          let is = eqb-true (t .seat) s on in
-          ap (λ (r : ℕ). getD (set base (t .seat) (Some (turnPart t (st .number) (latest st)))) r None) (sym is) ∙ getD-set-same base (t .seat) (Some (turnPart t (st .number) (latest st))) None (omega (arith, long)) ∙ ap (λ x. partBy st x s) (sym (cond-true (eqb (t .seat) s) (Some t) None on))
-      | inr off ↦
-          getD-set-other base (t .seat) s (Some (turnPart t (st .number) (latest st))) None (λ e. eqb-false (t .seat) s off (sym e)) ∙ getD-map waitingPart (st .waiting) s None None (omega arith) ∙ ap (λ x. partBy st x s) (sym (cond-false (eqb (t .seat) s) (Some t) None off))
+        | inl on ↦
+            let is = eqb-true (t .seat) s on in
+            ap (λ (r : ℕ). getD (set base (t .seat) (Some (turnPart t (st .number) (latest st)))) r None) (sym is) ∙ getD-set-same base (t .seat) (Some (turnPart t (st .number) (latest st))) None (omega (arith, long)) ∙ ap (λ x. partBy st x s) (sym (cond-true (eqb (t .seat) s) (Some t) None on))
+        | inr off ↦
+            getD-set-other base (t .seat) s (Some (turnPart t (st .number) (latest st))) None (λ e. eqb-false (t .seat) s off (sym e)) ∙ getD-map waitingPart (st .waiting) s None None (omega arith) ∙ ap (λ x. partBy st x s) (sym (cond-false (eqb (t .seat) s) (Some t) None off))
       ]
 
   pub part-is : turnSeat (st .turn) < 8 → (s : ℕ) → s < 8 → seatPart (meaningOf st) s ≡ partAt st s

@@ -1,2 +1,4 @@
+pub mod Moves
+pub mod Rooms
 pub mod Seats
 pub mod States

@@ -1,9 +1,10 @@
 // The one-at-a-time engine: one transaction has the turn, and the others wait until it has ended.
 mod engine;
+mod moves;
 mod refusals;
 mod seats;
 mod serial;
 mod state;
 
-pub use state::State;
+pub use engine::SerialEngine;
 pub use serial::Serial;

@@ -2,11 +2,13 @@
 ghost use mathlib.Core.Path.{_≡_};
 ghost use Prim.Native.Nat.{_+_, _<_, _≤_};
 ghost use lib.ListN.{length};
-ghost use Rattle.book.specs.Calls.{endRefusal, getRefusal, numbersTaken, openRefusal, putRefusal, stepRefusal, willMake};
+ghost use Rattle.book.specs.Calls.{endRefusal, getRefusal, numbersTaken, openRefusal, putRefusal, refusalOf, stepRefusal, willMake};
 ghost use Rattle.std.specs.shelf.Lists.{countBy};
 ghost use Rattle.serial.specs.Seats.{partAt};
 ghost use Rattle.serial.specs.States.{latest, meaningOf, turnSeat};
+use crate::serial::Serial;
 use crate::state::State;
+use book::Call;
 use book::Kind;
 use book::KindPartialEq;
 use book::MAX_NUMBER;
@@ -103,5 +105,23 @@ impl State {
             return Some(Refusal::NumbersUsedUp);
         }
         None
+    }
+}
+
+impl Serial {
+    // The refusal that a call meets, or none where it succeeds.
+    pub(crate) fn refusal(&self, call: Call) -> Option<Refusal>
+        ensures { λ r. ⌜ r ≡ refusalOf (meaningOf (now (self .entry) .state)) call ⌝ }
+    {
+        if call.seat() >= SEATS {
+            return Some(Refusal::NoSuchSeat);
+        }
+        match call {
+            Call::Open { kind, seat } => self.state.open_refusal(kind, seat),
+            Call::Get { seat, cell } => self.state.get_refusal(seat, cell),
+            Call::Put { seat, cell, .. } => self.state.put_refusal(seat, cell),
+            Call::End { seat } => self.state.end_refusal(seat),
+            Call::Step { seat } => self.state.step_refusal(seat),
+        }
     }
 }

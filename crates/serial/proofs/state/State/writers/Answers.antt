@@ -18,12 +18,12 @@ loop-seat-again c =
     let part = part-is st (c .pre .sized) (c .pre .within) (c .loop-seat .seat) (omega arith) in
     let within : c .loop-seat .seat < length (meaningOf st .seats) = omega (arith, seats-sized st (c .pre .sized)) in
     elim (c .if-will-make .came) [
-      then-will-make w ↦
-        let more = countBy-more-yes willMake (meaningOf st .seats) (c .loop-seat .seat) None within (ap willMake part ∙ sym (w .if-will-make .ensures tt)) in
-        (omega (arith, w .n-is), w .n-is ∙ ap (λ (n : ℕ). n + 1) (c .loop-seat .inv .1) ∙ sym more)
-    | else-will-make w ↦
-        let same = countBy-more-no willMake (meaningOf st .seats) (c .loop-seat .seat) None within (ap willMake part ∙ sym (w .if-will-make .ensures tt)) in
-        (omega (arith, w .n-is), w .n-is ∙ c .loop-seat .inv .1 ∙ sym same)
+      | then-will-make w ↦
+          let more = countBy-more-yes willMake (meaningOf st .seats) (c .loop-seat .seat) None within (ap willMake part ∙ sym (w .if-will-make .ensures tt)) in
+          (omega (arith, w .n-is), w .n-is ∙ ap (λ (n : ℕ). n + 1) (c .loop-seat .inv .1) ∙ sym more)
+      | else-will-make w ↦
+          let same = countBy-more-no willMake (meaningOf st .seats) (c .loop-seat .seat) None within (ap willMake part ∙ sym (w .if-will-make .ensures tt)) in
+          (omega (arith, w .n-is), w .n-is ∙ c .loop-seat .inv .1 ∙ sym same)
     ]
 
 pub returns : need.returns
