@@ -29,7 +29,7 @@ use Rattle.serial.specs.declared.state.Stage.{Stage}
 use Rattle.serial.specs.declared.state.Stage.the-variants.{Ending, Getting, Made, Putting, Ready}
 use Rattle.serial.specs.declared.state.State.{State}
 use Rattle.serial.specs.declared.state.Turn.{Turn}
-use Rattle.serial.specs.Moves.{Asked, askedFor}
+use Rattle.serial.specs.Moves.{Asked, askedFor, turnAt, waitingAt}
 use Rattle.serial.specs.Rooms.{stageRoom, turnRoom}
 use Rattle.serial.specs.Seats.{partAt, partBy, turnOf}
 use Rattle.serial.specs.States.{hasTurn, latest, meaningOf, stageOwed, stageRequest, stageSight, turnPart, turnSeat, waitingPart, withTurn}
@@ -71,9 +71,6 @@ no-turn st s (Some t) e =
       | inl on ↦ let z : _≡_ {A = ℕ} 0 1 = (let q = ap (λ x. partBy st x s) (sym (cond-true (eqb (t .seat) s) (Some t) None on)) ∙ e in cc) in absurd (omega arith)
       | inr off ↦ off
     ]
-
-abbrev pub waitingAt : State → ℕ → Option Kind → State
-waitingAt st s k = record { cells = st .cells; count = st .count; number = st .number; waiting = set (st .waiting) s k; turn = st .turn }
 
 writer-room : (kind : Kind) (taken : ℕ) → taken ≤ maxNumber → (isWriter kind && leb maxNumber taken) ≡ false → taken + one (willMake (waitingPart (Some kind))) ≤ maxNumber
 writer-room Reader taken fits none = omega arith
@@ -164,9 +161,6 @@ asked-part (Getting cell) t n cells ready unmade = ap (λ (x : Stage). askedFor 
 asked-part (Putting write) t n cells ready unmade = ap (λ (x : Stage). askedFor (stageRequest (Putting write)) 1 (Some (turnPart (record { seat = t .seat; kind = t .kind; stage = x; writes = t .writes }) n cells))) (sym ready)
 asked-part Ending t n cells ready unmade = ap (λ (x : Stage). askedFor (stageRequest Ending) (stageOwed Ending (t .kind)) (Some (turnPart (record { seat = t .seat; kind = t .kind; stage = x; writes = t .writes }) n cells))) (sym ready)
 asked-part Made t n cells ready unmade = absurd (true≢false unmade)
-
-abbrev pub turnAt : State → Turn → State
-turnAt st u = record { cells = st .cells; count = st .count; number = st .number; waiting = st .waiting; turn = Some u }
 
 pub not-made : (stage : Stage) (n : ℕ) (cells : List CellValue) → hasMade (stageSight stage 0 []) ≡ hasMade (stageSight stage n cells)
 not-made Ready n cells = refl

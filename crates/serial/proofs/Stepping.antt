@@ -29,11 +29,11 @@ use Rattle.serial.specs.declared.state.Stage.{Stage}
 use Rattle.serial.specs.declared.state.Stage.the-variants.{Ending, Getting, Made, Putting, Ready}
 use Rattle.serial.specs.declared.state.State.{State}
 use Rattle.serial.specs.declared.state.Turn.{Turn}
-use Rattle.serial.specs.Moves.{SeatSteps, TurnSteps}
+use Rattle.serial.specs.Moves.{committedAt, endedAt, readyTurn, SeatSteps, takenAt, turnAt, TurnSteps}
 use Rattle.serial.specs.Rooms.{stageRoom, turnRoom}
 use Rattle.serial.specs.Seats.{partBy, turnOf}
 use Rattle.serial.specs.States.{hasTurn, latest, meaningOf, stageOwed, stageRequest, stageSight, turnPart, turnSeat, waitingPart, withTurn}
-use Rattle.serial.proofs.Accepting.{seat-place, Sound, taken-after, turnAt}
+use Rattle.serial.proofs.Accepting.{seat-place, Sound, taken-after}
 use Rattle.serial.proofs.Parts.{part-is, seats-sized}
 use Rattle.serial.proofs.SeatLists.{count-one, gives-up, goes-on, one, takes-turn}
 
@@ -44,11 +44,9 @@ write-more ws cells now i d some within is =
     let front : drop (i - 1) ws ≡ getD ws (i - 1) d ∷ drop i ws = drop-more ws (i - 1) d (omega arith) ∙ ap (λ (k : ℕ). getD ws (i - 1) d ∷ drop k ws) back in
     ap (λ (l : List CellValue). set l (getD ws (i - 1) d .cell) (getD ws (i - 1) d .value)) is ∙ ap (λ (l : List Write). applied l cells) (sym front)
 
-abbrev pub endedAt : State → ℕ → State
-endedAt st s = record { cells = st .cells; count = st .count; number = st .number; waiting = set (st .waiting) s None; turn = None }
-
-abbrev pub committedAt : State → List CellValue → Turn → State
-committedAt st cells u = record { cells = cells; count = st .count; number = st .number + 1; waiting = st .waiting; turn = Some u }
+-- a step, told by what was answered and by the state that it led to
+pub steps-to : (m : Meaning) (seat : ℕ) (o : Open) (r answer : Word × ℕ) (st after : State) → r ≡ answer → st ≡ after → Steps m seat o (answer .0) (answer .1) (meaningOf after) → Steps m seat o (r .0) (r .1) (meaningOf st)
+steps-to m seat o r answer st after told is steps = subst (λ (x : Word × ℕ). Steps m seat o (x .0) (x .1) (meaningOf st)) (sym told) (subst (λ (x : State). Steps m seat o (answer .0) (answer .1) (meaningOf x)) (sym is) steps)
 
 module _ (st : State) (sound : Sound st) (t : Turn) (turn-is : st .turn ≡ Some t) where
   place : t .seat < 8
@@ -75,7 +73,7 @@ module _ (st : State) (sound : Sound st) (t : Turn) (turn-is : st .turn ≡ Some
 
   -- a request that is answered: the transaction is ready again
   abbrev pub answered : WriteSet → State
-  answered ws = turnAt st (record { seat = t .seat; kind = t .kind; stage = Ready; writes = ws })
+  answered ws = turnAt st (readyTurn t ws)
 
   abbrev answered-turn : WriteSet → Turn
   answered-turn ws = record { seat = t .seat; kind = t .kind; stage = Ready; writes = ws }
@@ -154,7 +152,7 @@ module _ (st : State) (sound : Sound st) (t : Turn) (turn-is : st .turn ≡ Some
     made-turn = record { seat = t .seat; kind = t .kind; stage = Made; writes = t .writes }
 
     abbrev after : State
-    after = committedAt st cells made-turn
+    after = committedAt st cells t
 
     made-seats : meaningOf after .seats ≡ set (meaningOf st .seats) (t .seat) (Some (turnPart made-turn (st .number + 1) (take (st .count) cells)))
     made-seats = on made-turn (st .number + 1) (take (st .count) cells) refl
@@ -194,9 +192,6 @@ module _ (st : State) (sound : Sound st) (t : Turn) (turn-is : st .turn ≡ Some
       omega (arith, sound .room, some, ap one will-make)
 
 -- opened
-abbrev pub takenAt : State → Turn → State
-takenAt st u = record { cells = st .cells; count = st .count; number = st .number; waiting = set (st .waiting) (u .seat) None; turn = Some u }
-
 module _ (st : State) (sound : Sound st) (free : st .turn ≡ None) (seat : ℕ) (busy : refusalOf (meaningOf st) (calls.Step seat) ≡ None) where
   at-place : seat < 8
   at-place = seat-place (meaningOf st) (calls.Step seat) busy .0

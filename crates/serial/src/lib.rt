@@ -5,6 +5,7 @@ mod refusals;
 mod seats;
 mod serial;
 mod state;
+mod steps;
 
 pub use engine::SerialEngine;
 pub use serial::Serial;

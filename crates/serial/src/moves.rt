@@ -4,41 +4,30 @@ ghost use mathlib.Core.List.{[]};
 ghost use mathlib.Core.Logic.{_⊎_};
 ghost use mathlib.Core.Path.{_≡_};
 ghost use Prim.Native.Nat.{_≤_};
-ghost use lib.ListN.{getD, length, take};
+ghost use lib.ListN.{length};
 ghost use Rattle.std.specs.Options.{isSome};
 ghost use Rattle.std.specs.declared.option.Option.the-variants.{None, Some};
 ghost use Rattle.book.specs.declared.call.Call.the-variants.{End, Open, Step};
 ghost use Rattle.book.specs.declared.call.Kind.the-variants.{Reader, Writer};
 ghost use Rattle.book.specs.Calls.{hasMade, refusalOf};
 ghost use Rattle.book.specs.Effects.{Accepts};
-ghost use Rattle.book.specs.Writes.{applied};
 ghost use Rattle.serial.specs.declared.state.Stage.the-variants.{Ending, Getting, Made, Putting};
 ghost use Rattle.serial.specs.Moves.{Asked, fresh, SeatSteps, TurnSteps};
 ghost use Rattle.serial.specs.Rooms.{stageRoom};
 ghost use Rattle.serial.specs.declared.state.Turn.{Turn};
 ghost use Rattle.serial.specs.Seats.{turnOf};
-ghost use Rattle.serial.specs.States.{latest, meaningOf, stageRequest, stageSight};
+ghost use Rattle.serial.specs.States.{meaningOf, stageRequest, stageSight};
 use crate::serial::Serial;
 use crate::state::Stage;
 use crate::state::State;
 use crate::state::Turn;
+use crate::steps::filled;
+use crate::steps::written_over;
 use book::Kind;
-use book::MAX_CELLS;
 use book::Value;
 use book::Word;
 use book::Write;
 use book::WriteSet;
-
-impl State {
-    // The latest value of a cell, and 0 where there is no such cell.
-    pub(crate) fn value_at(&self, cell: u32) -> Value
-        requires { ⌜ now self .count ≤ length (now self .cells) ⌝ }
-        ensures { λ r. ⌜ r ≡ getD (latest (now (self .entry))) cell 0 ⌝ }
-    {
-        let at = cell as usize;
-        if at < self.count { self.cells[at] } else { 0 }
-    }
-}
 
 impl Serial {
     // A book with these cells and this number, all of its seats free.
@@ -85,42 +74,26 @@ impl Serial {
         ensures { λ r. ⌜ SeatSteps (meaningOf (now (self .entry) .state)) seat (r .0) (r .1) (meaningOf (now (self .exit) .state)) ⌝ }
     {
         let waiting = self.state.waiting[seat as usize];
-        if let Some(kind) = waiting {
-            self.state.waiting[seat as usize] = None;
-            self.state.turn = Some(Turn {
-                seat,
-                kind,
-                stage: Stage::Ready,
-                writes: WriteSet::empty(),
-            });
-        }
-        (Word::Opened, self.state.number)
+        let Some(kind) = waiting else {
+            return unreachable();
+        };
+        self.state.take_turn(seat, kind, WriteSet::empty())
     }
 
-    // The transaction gives up the turn, and its seat is free.
     fn give_up_turn(&mut self, turn: Turn) -> (Word, u32)
         requires turn { ⌜ now self .state .turn ≡ Some turn ⌝ }
         requires ending { ⌜ ((turn .stage ≡ Made) × (turn .kind ≡ Writer)) ⊎ ((turn .stage ≡ Ending) × (turn .kind ≡ Reader)) ⌝ }
         ensures { λ r. ⌜ TurnSteps (now (self .entry) .state) turn (r .0) (r .1) (now (self .exit) .state) ⌝ }
     {
-        self.state.waiting[turn.seat as usize] = None;
-        self.state.turn = None;
-        (Word::Ended, self.state.number)
+        self.state.give_up_turn(turn.seat)
     }
 
-    // The transaction is told a value: its own put of the cell, else the latest.
     fn tell(&mut self, turn: Turn, cell: u32) -> (Word, u32)
         requires turn { ⌜ now self .state .turn ≡ Some turn ⌝ }
         requires asked { ⌜ turn .stage ≡ Getting cell ⌝ }
         ensures { λ r. ⌜ TurnSteps (now (self .entry) .state) turn (r .0) (r .1) (now (self .exit) .state) ⌝ }
     {
-        let latest = self.state.value_at(cell);
-        let value = turn.writes.get(cell).unwrap_or(latest);
-        self.state.turn = Some(Turn {
-            stage: Stage::Ready,
-            ..turn
-        });
-        (Word::Told, value)
+        self.state.tell(turn, cell)
     }
 
     // The put joins the transaction's write set.
@@ -146,20 +119,10 @@ impl Serial {
         requires writer { ⌜ turn .kind ≡ Writer ⌝ }
         ensures { λ r. ⌜ TurnSteps (now (self .entry) .state) turn (r .0) (r .1) (now (self .exit) .state) ⌝ }
     {
-        let mut state = self.state;
-        let count = state.count;
-        write_all(&mut state.cells[0..count], turn.writes.as_slice());
-        state.number += 1;
-        state.turn = Some(Turn {
-            stage: Stage::Made,
-            ..turn
-        });
-        self.state = state;
-        (Word::Made, self.state.number)
+        let cells = written_over(self.state.cells, self.state.count, turn.writes.as_slice());
+        self.state.commit(turn, cells)
     }
-}
 
-impl Serial {
     // One step of the transaction that has the turn.
     pub(crate) fn step_of_turn(&mut self, turn: Turn) -> (Word, u32)
         requires turn { ⌜ now self .state .turn ≡ Some turn ⌝ }
@@ -175,34 +138,6 @@ impl Serial {
                 Kind::Reader => self.give_up_turn(turn),
             },
             Stage::Made => self.give_up_turn(turn),
-        }
-    }
-}
-
-// The cells, and zeros behind them.
-fn filled(cells: &[Value]) -> [Value; MAX_CELLS]
-    requires { ⌜ length (now cells) ≤ 64 ⌝ }
-    ensures long { λ r. ⌜ length r ≡ 64 ⌝ }
-    ensures front { λ r. ⌜ take (length (now (cells .entry))) r ≡ now (cells .entry) ⌝ }
-{
-    let mut all = [0; MAX_CELLS];
-    for (i, value) in cells.iter().enumerate() {
-        all[i] = *value;
-    }
-    all
-}
-
-// Writes each value into its cell.
-fn write_all(cells: &mut [Value], writes: &[Write])
-    ensures { λ _. ⌜ now (cells .exit) ≡ applied (now (writes .entry)) (now (cells .entry)) ⌝ }
-{
-    let mut i = writes.len();
-    while i > 0 {
-        i -= 1;
-        let write = writes[i];
-        let at = write.cell as usize;
-        if at < cells.len() {
-            cells[at] = write.value;
         }
     }
 }

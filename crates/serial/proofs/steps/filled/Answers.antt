@@ -4,7 +4,7 @@ use Prim.Native.Nat.{ℕ}
 use native.Mathlib.Omega.{arith}
 use lib.ListN.{getD, length, length-set, take}
 use Rattle.std.proofs.shelf.Lists.{take-all, take-more, take-more-set}
-use Rattle.serial.proofs.moves.filled.Needs as need
+use Rattle.serial.proofs.steps.filled.Needs as need
 
 pub loop-i-again : need.loop-i-again
 loop-i-again c =

@@ -6,7 +6,7 @@ use lib.ListN.{drop, length, set}
 use Rattle.std.proofs.shelf.Lists.{drop-all, set-past}
 use Rattle.book.specs.Writes.{applied, CellValue, Write}
 use Rattle.serial.proofs.Stepping.{write-more}
-use Rattle.serial.proofs.moves.write_all.Needs as need
+use Rattle.serial.proofs.steps.write_all.Needs as need
 
 pub loop-i-holds : need.loop-i-holds
 loop-i-holds c = (omega arith, ap (λ (l : List Write). applied l (c .args .cells .now)) (sym (drop-all (length (c .args .writes .now)) (c .args .writes .now) (omega arith))))

@@ -2,7 +2,7 @@ use mathlib.Core.Path.{_≡_}
 use Prim.Native.Nat.{_≤_}
 use lib.ListN.{drop, length}
 use Rattle.book.specs.Writes.{applied}
-use Rattle.serial.proofs.moves.write_all.Given as given
+use Rattle.serial.proofs.steps.write_all.Given as given
 
 abbrev pub Inv-loop-i : given.InvT-loop-i
 Inv-loop-i l = (l .i ≤ length (l .writes)) × (l .cells ≡ applied (drop (l .i) (l .writes)) (l .entry .cells))
