@@ -9,3 +9,6 @@ mod steps;
 
 pub use engine::SerialEngine;
 pub use serial::Serial;
+
+#[cfg(test)]
+mod tests;

@@ -89,7 +89,11 @@ impl State {
 }
 
 // The array with each value written into its cell, as far as the cells go.
-pub(crate) fn written_over(cells: [Value; MAX_CELLS], count: usize, writes: &[Write]) -> [Value; MAX_CELLS]
+pub(crate) fn written_over(
+    cells: [Value; MAX_CELLS],
+    count: usize,
+    writes: &[Write],
+) -> [Value; MAX_CELLS]
     requires long { ⌜ length cells ≡ 64 ⌝ }
     requires few { ⌜ count ≤ 64 ⌝ }
     ensures long { λ r. ⌜ length r ≡ 64 ⌝ }

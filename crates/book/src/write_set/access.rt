@@ -1,7 +1,10 @@
 ghost use mathlib.Core.Bool.{cond};
 ghost use mathlib.Core.List.{[]};
 ghost use mathlib.Core.Path.{_≡_};
+ghost use Prim.Native.Nat.{_<_};
 ghost use lib.Dec.{eqb};
+ghost use lib.ListN.{getD, length};
+ghost use Rattle.book.specs.Sizes.{maxWrites};
 ghost use Rattle.book.specs.WriteSets.{Position, entries, hasRoom, lacksRoom};
 ghost use Rattle.book.specs.Writes.{withPut, written};
 use super::MAX_WRITES;
@@ -50,14 +53,27 @@ impl WriteSet {
         ensures { λ r. ⌜ r ≡ written cell (entries (now (self .entry))) ⌝ }
     {
         let found = self.position(cell)?;
-        Some(self.writes[found].value)
+        Some(self.value_at(found))
+    }
+
+    fn value_at(&self, place: usize) -> Value
+        requires { ⌜ place < length (now self .writes) ⌝ }
+        ensures { λ r. ⌜ r ≡ getD (now (self .entry) .writes) place (record { cell = 0; value = 0 }) .value ⌝ }
+    {
+        self.writes[place].value
+    }
+
+    fn is_full(&self) -> bool
+        ensures { λ r. ⌜ r ≡ eqb (now (self .entry) .len) maxWrites ⌝ }
+    {
+        self.len == MAX_WRITES
     }
 
     // Whether a put of the cell would be one cell too many.
     pub fn is_full_for(&self, cell: u32) -> bool
         ensures { λ r. ⌜ r ≡ lacksRoom cell (entries (now (self .entry))) ⌝ }
     {
-        self.get(cell).is_none() && self.as_slice().len() >= MAX_WRITES
+        self.get(cell).is_none() && self.is_full()
     }
 
     // Adds a put, if there is room for its cell.
@@ -69,7 +85,7 @@ impl WriteSet {
             self.writes[found] = write;
             return true;
         }
-        if self.len == MAX_WRITES {
+        if self.is_full() {
             return false;
         }
         self.writes[self.len] = write;
