@@ -1,24 +1,22 @@
 -- Each call keeps the relation between meaning and history.
-use mathlib.Core.Bool.{Bool, true, false, cond, not}
-use mathlib.Core.List.{List, [], _∷_}
+use mathlib.Core.Bool.{Bool}
+use mathlib.Core.List.{List, _∷_}
 use mathlib.Core.Logic.{_⊎_, inl, inr, ⊎-elim}
 use mathlib.Core.Path.{_≡_, refl, sym, ap, subst, _∙_}
-use Prim.Native.Nat.{ℕ, suc, _+_, _≤_, _<_}
+use Prim.Native.Nat.{ℕ, _+_, _≤_, _<_}
 use native.Mathlib.Omega.{arith}
 use lib.Dec.{eqb}
-use lib.ListN.{getD, length, set}
-use Rattle.std.proofs.shelf.Lists.{set-getD}
+use lib.ListN.{getD}
 use Rattle.std.proofs.shelf.Tests.{cond-true, eq-eqb}
 use Rattle.std.specs.declared.option.Option.{Option}
 use Rattle.std.specs.declared.option.Option.the-variants.{None, Some}
 use Rattle.std.specs.Options.{valueOr}
-use Rattle.book.specs.declared.call.Call.{Call}
 use Rattle.book.specs.declared.call.Call.the-variants as calls
 use Rattle.book.specs.Calls.{seatOf}
 use Rattle.book.specs.Effects.{committed, MaySee, onward, tells, withSeat}
 use Rattle.book.specs.Histories.{counted, ended, Event, Heard, History, lastMade, made, madeNumber, moved, opened, openedNumber, put, stepsTaken, told}
 use Rattle.book.specs.Law.{madeCount, oneIfMade}
-use Rattle.book.specs.Meaning.{ending, getting, made as made-sight, Meaning, nothing, Open, opening, putting, Request, seatPart, Sight, view}
+use Rattle.book.specs.Meaning.{ending, getting, made as made-sight, Meaning, nothing, Open, opening, putting, Request, Sight, view}
 use Rattle.book.specs.Replays.{base, madeAs, openedAs, putsOf, snapshot, Start, workedAnswer, workedGet, workedTold}
 use Rattle.book.specs.Sizes.{seatCount}
 use Rattle.book.specs.Transactions.{current, goingOn, place, Transaction, withAsked}
@@ -27,7 +25,7 @@ use Rattle.book.proofs.Extensions.{Extension, fixed-stays, making-event, openi
 use Rattle.book.proofs.Growing.{Grown, grown}
 use Rattle.book.proofs.Places.{current-same, number-given, number-quiet}
 use Rattle.book.proofs.Snapshots.{snapshot-made}
-use Rattle.book.proofs.Tied.{Fixed, HasMade, HasView, MadeFact, Opens, PartTied, Sees, SeatTied, SeesNothing, Tied}
+use Rattle.book.proofs.Tied.{Fixed, MadeFact, PartTied, Sees, SeatTied, Tied}
 use Rattle.book.proofs.WriteSets.{writeSet, writeSet-applied, writeSet-written}
 
 no-number : (p : ℕ) → _≡_ {A = Option ℕ} None (Some p) → ⊥

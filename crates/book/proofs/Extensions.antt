@@ -1,9 +1,9 @@
 -- What one more event keeps of everything that was before it.
-use mathlib.Core.Bool.{Bool, true, false, cond}
+use mathlib.Core.Bool.{false}
 use mathlib.Core.List.{List, [], _∷_, _++_}
 use mathlib.Core.Logic.{_⊎_, inl, inr, ⊎-elim}
 use mathlib.Core.Path.{_≡_, refl, sym, ap, subst, _∙_}
-use Prim.Native.Nat.{ℕ, suc, _+_, _≤_, _<_}
+use Prim.Native.Nat.{ℕ, _+_, _≤_}
 use native.Mathlib.Omega.{arith}
 use lib.Dec.{eqb}
 use lib.ListN.{getD}
@@ -12,14 +12,14 @@ use Rattle.std.specs.declared.option.Option.{Option}
 use Rattle.std.specs.declared.option.Option.the-variants.{None, Some}
 use Rattle.std.specs.Options.{valueOr}
 use Rattle.book.specs.Calls.{seatOf}
-use Rattle.book.specs.Histories.{accepted, declined, earlier, ended, Event, Happens, Heard, History, lastMade, made, madeNumber, moved, newest, opened, openedNumber, put, stepsTaken, told, waited}
+use Rattle.book.specs.Histories.{accepted, declined, earlier, ended, Event, Heard, History, lastMade, made, madeNumber, moved, newest, opened, openedNumber, put, stepsTaken, told, waited}
 use Rattle.book.specs.Meaning.{ending, getting, made as made-sight, nothing, Open, opening, putting, Request, Sight, view}
-use Rattle.book.specs.Replays.{base, madeAs, numberOf, openedAs, runsOn, snapshot, Start, workedAnswer, workedBy, workedGet, workedTold}
+use Rattle.book.specs.Replays.{base, madeAs, numberOf, openedAs, runsOn, snapshot, Start, workedAnswer, workedBy, workedGet}
 use Rattle.book.specs.Transactions.{current, place, Transaction}
 use Rattle.book.specs.Writes.{CellValue, written}
 use Rattle.book.proofs.Places.{number-given, number-kept, number-quiet, places-apart}
 use Rattle.book.proofs.Snapshots.{snapshot-kept, snapshot-quiet}
-use Rattle.book.proofs.Tied.{Fixed, HasMade, HasView, MadeFact, Opens, Sees, SeatTied, SeesNothing, ToldFixed}
+use Rattle.book.proofs.Tied.{Fixed, MadeFact, Sees, SeatTied, ToldFixed}
 
 pub record Extension (start : Start) (e : Event) (h : History) : Type 0 where
   pub last : lastMade (start .number) h ≤ lastMade (start .number) (e ∷ h)

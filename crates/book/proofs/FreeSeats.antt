@@ -1,20 +1,19 @@
 -- Seats that are seen to be free, one after the other.
 use mathlib.Core.Bool.{Bool, true, false, cond, not, _&&_}
 use mathlib.Core.List.{List, [], _∷_, _++_}
-use mathlib.Core.Path.{_≡_, refl, sym, ap, subst, _∙_}
-use Prim.Native.Nat.{ℕ, suc, zero, _+_, _≤_, _<_}
-use native.Mathlib.Omega.{arith}
+use mathlib.Core.Path.{_≡_, refl, sym, ap, _∙_}
+use Prim.Native.Nat.{ℕ, suc, zero, _+_, _<_}
 use lib.Dec.{leb}
 use lib.ListN.{getD, length, take}
 use Rattle.std.proofs.shelf.Lists.{take-more}
-use Rattle.std.proofs.shelf.Tests.{and-parts, and-right, cond-false, lt-leb, not-true, true≢false}
+use Rattle.std.proofs.shelf.Tests.{and-parts, and-right, cond-false, lt-leb, true≢false}
 use Rattle.std.specs.declared.option.Option.{Option}
 use Rattle.std.specs.declared.option.Option.the-variants.{None, Some}
 use Rattle.std.specs.declared.result.Result.{Result}
-use Rattle.std.specs.declared.result.Result.the-variants.{Err, Ok}
+use Rattle.std.specs.declared.result.Result.the-variants.{Ok}
 use Rattle.std.specs.Options.{isSome}
 use Rattle.book.specs.declared.answer.Standing.{Standing}
-use Rattle.book.specs.declared.answer.Standing.the-variants.{Busy, Free, Ready}
+use Rattle.book.specs.declared.answer.Standing.the-variants.{Busy, Ready}
 use Rattle.book.specs.declared.refusal.Refusal.{Refusal}
 use Rattle.book.specs.Calls.{isBusy}
 use Rattle.book.specs.Engines.{noneOpen, saysFree, seatStanding, standingIn}

@@ -1,7 +1,7 @@
 -- The relation lasts through one more event, given what the event does to its own seat.
-use mathlib.Core.Bool.{Bool, true, false, cond}
-use mathlib.Core.List.{List, [], _∷_}
-use mathlib.Core.Logic.{_⊎_, inl, inr, ⊎-elim}
+use mathlib.Core.Bool.{true, false}
+use mathlib.Core.List.{List, _∷_}
+use mathlib.Core.Logic.{_⊎_, ⊎-elim}
 use mathlib.Core.Path.{_≡_, refl, sym, ap, subst, _∙_}
 use Prim.Native.Nat.{ℕ, suc, zero, _+_, _≤_, _<_}
 use native.Mathlib.Omega.{arith}
@@ -12,7 +12,7 @@ use Rattle.std.proofs.shelf.Tests.{cases-bool, cond-false, eqb-false, eqb-true}
 use Rattle.std.specs.declared.option.Option.{Option}
 use Rattle.std.specs.declared.option.Option.the-variants.{None, Some}
 use Rattle.book.specs.Calls.{seatOf}
-use Rattle.book.specs.Histories.{earlier, Event, Happens, History, lastMade, madeNumber, newest, openedNumber, stepsTaken, told}
+use Rattle.book.specs.Histories.{earlier, Event, History, lastMade, madeNumber, newest, openedNumber, stepsTaken, told}
 use Rattle.book.specs.Law.{madeCount}
 use Rattle.book.specs.Meaning.{Meaning, Open, seatPart}
 use Rattle.book.specs.Replays.{snapshot, Start}

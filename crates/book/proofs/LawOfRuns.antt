@@ -1,18 +1,17 @@
 -- The law of runs, read off the relation at the end of a run.
-use mathlib.Core.Bool.{Bool, true, false}
+use mathlib.Core.Bool.{true, false}
 use mathlib.Core.List.{List, [], _∷_, _++_, map}
-use mathlib.Core.Logic.{_⊎_, inl, inr, ⊎-elim}
+use mathlib.Core.Logic.{_⊎_, ⊎-elim}
 use mathlib.Core.Path.{_≡_, refl, sym, ap, subst, _∙_}
 use Prim.Native.Nat.{ℕ, suc, zero, _+_, _-_, _≤_, _<_}
 use native.Mathlib.Omega.{arith}
-use lib.ListN.{drop, getD, length, length-append}
+use lib.ListN.{drop, length, length-append}
 use Rattle.std.proofs.shelf.Lists.{getD-past, map-push}
 use Rattle.std.proofs.shelf.Tests.{cases-lt, true≢false}
 use Rattle.std.specs.declared.option.Option.{Option}
 use Rattle.std.specs.declared.option.Option.the-variants.{None, Some}
 use Rattle.std.specs.Options.{isSome}
 use Rattle.book.specs.declared.answer.Answer.{Answer}
-use Rattle.book.specs.declared.answer.Answer.the-variants.{Accepted, Declined, Stepped}
 use Rattle.book.specs.declared.answer.Word.{Word}
 use Rattle.book.specs.declared.answer.Word.the-variants as words
 use Rattle.book.specs.declared.call.Call.{Call}
@@ -20,7 +19,7 @@ use Rattle.book.specs.declared.call.Call.the-variants as calls
 use Rattle.book.specs.Calls.{isBusy, seatOf}
 use Rattle.book.specs.Effects as effects
 use Rattle.book.specs.Effects.{Steps}
-use Rattle.book.specs.Histories.{earlier, Event, Happens, heard, heardStep, History, historyAfter, historyOf, lastMade, madeNumber, newest, openedNumber, stepsTaken, waited}
+use Rattle.book.specs.Histories.{earlier, Event, Happens, heard, heardStep, History, historyAfter, historyOf, madeNumber, newest, stepsTaken, waited}
 use Rattle.book.specs.Law.{AnswersTo, IsBusy, IsOpen, LawOfRuns, madeCount, NumbersAreRight, oneIfMade, SomethingMoves, startOf, toldValue}
 use Rattle.book.specs.Meaning.{Meaning, Open, seatPart}
 use Rattle.book.specs.Replays.{madeAs, snapshotAfter, Start, workedBy}
@@ -31,7 +30,7 @@ use Rattle.book.specs.Transactions.{current, place, Transaction}
 use Rattle.book.proofs.Acts.{open-seat}
 use Rattle.book.proofs.Extensions.{same-some, worked-stays}
 use Rattle.book.proofs.Tied.{MadeFact, PartTied, SeatTied, Tied}
-use Rattle.book.proofs.Told.{call-kept, Kept}
+use Rattle.book.proofs.Told.{call-kept}
 
 history-push : (old : History) (cs : List Call) (as′ : List Answer) (c : Call) (a : Answer) → length cs ≡ length as′ → historyAfter old (cs ++ (c ∷ [])) (as′ ++ (a ∷ [])) ≡ record { call = c; hears = heard a } ∷ historyAfter old cs as′
 history-push old [] [] c a same = refl

@@ -1,14 +1,12 @@
 -- Declined calls, waits and accepted requests keep the relation between meaning and history.
-use mathlib.Core.Bool.{Bool, true, false, cond, not, _&&_}
-use mathlib.Core.List.{List, [], _∷_}
-use mathlib.Core.Logic.{_⊎_, inl, inr, ⊎-elim}
+use mathlib.Core.Bool.{Bool, true, false, cond}
+use mathlib.Core.List.{[], _∷_}
 use mathlib.Core.Path.{_≡_, refl, sym, ap, subst, _∙_}
-use Prim.Native.Nat.{ℕ, suc, _+_, _≤_, _<_}
+use Prim.Native.Nat.{ℕ, _+_, _≤_, _<_}
 use native.Mathlib.Omega.{arith}
 use lib.Dec.{eqb, leb}
-use lib.ListN.{getD, length, set}
-use Rattle.std.proofs.shelf.Lists.{set-getD}
-use Rattle.std.proofs.shelf.Tests.{cases-bool, cond-false, cond-true, eq-eqb, false≢true, leb-false, true≢false}
+use lib.ListN.{length, set}
+use Rattle.std.proofs.shelf.Tests.{cond-true, eq-eqb, false≢true, leb-false, true≢false}
 use Rattle.std.specs.declared.option.Option.{Option}
 use Rattle.std.specs.declared.option.Option.the-variants.{None, Some}
 use Rattle.std.specs.Options.{isSome}
@@ -16,18 +14,17 @@ use Rattle.book.specs.declared.call.Call.{Call}
 use Rattle.book.specs.declared.call.Call.the-variants as calls
 use Rattle.book.specs.declared.refusal.Refusal.{Refusal}
 use Rattle.book.specs.Calls.{endRefusal, getRefusal, if-then, isBusy, isRequest, putRefusal, refusalOf, seatOf, seatRefusal}
-use Rattle.book.specs.Effects.{Accepts, asked, requested, withSeat}
-use Rattle.book.specs.Histories.{accepted, counted, declined, Event, Heard, History, lastMade, madeNumber, openedNumber, stepsTaken, told, waited}
-use Rattle.book.specs.Meaning.{ending, getting, made as made-sight, Meaning, nothing, Open, opening, putting, Request, seatPart, Sight, view}
-use Rattle.book.specs.Replays.{madeAs, openedAs, Start}
+use Rattle.book.specs.Effects.{Accepts, asked}
+use Rattle.book.specs.Histories.{accepted, counted, declined, Event, History, lastMade, madeNumber, openedNumber, stepsTaken, told, waited}
+use Rattle.book.specs.Meaning.{ending, getting, Meaning, nothing, Open, opening, putting, Request, seatPart}
+use Rattle.book.specs.Replays.{Start}
 use Rattle.book.specs.Sizes.{seatCount}
 use Rattle.book.specs.Transactions.{asking, current, goingOn, place, Transaction}
-use Rattle.book.specs.Writes.{Write}
 use Rattle.book.proofs.Acts.{open-seat, quiet-grown, view-stays}
-use Rattle.book.proofs.Extensions.{Extension, quiet, sees-stays}
+use Rattle.book.proofs.Extensions.{quiet, sees-stays}
 use Rattle.book.proofs.Growing.{grown, grown-by}
 use Rattle.book.proofs.Places.{current-same, number-fresh, number-quiet}
-use Rattle.book.proofs.Tied.{Fixed, PartTied, Sees, SeatTied, Tied}
+use Rattle.book.proofs.Tied.{PartTied, Sees, SeatTied, Tied}
 use Rattle.book.proofs.WriteSets.{writeSet}
 
 -- a table's line that meets nothing

@@ -1,7 +1,7 @@
 -- A run grows by one call, and its answers by one place.
-use mathlib.Core.Bool.{Bool, true, false, not}
+use mathlib.Core.Bool.{true, not}
 use mathlib.Core.List.{List, [], _∷_, _++_}
-use mathlib.Core.Path.{_≡_, refl, sym, ap, subst, _∙_}
+use mathlib.Core.Path.{_≡_, sym, ap, subst, _∙_}
 use Prim.Native.Nat.{ℕ, _+_, _≤_, _<_}
 use native.Mathlib.Omega.{arith}
 use lib.Dec.{ltb}
@@ -12,9 +12,8 @@ use Rattle.std.specs.declared.option.Option.the-variants.{None}
 use Rattle.book.specs.declared.answer.Answer.{Answer}
 use Rattle.book.specs.declared.call.Call.{Call}
 use Rattle.book.specs.Engines.{noneOpen, runRefusal}
-use Rattle.book.specs.Law.{LawOfRuns}
 use Rattle.book.specs.Meaning.{Meaning}
-use Rattle.book.specs.Progress.{AllFree, SomeBusyMoves}
+use Rattle.book.specs.Progress.{SomeBusyMoves}
 use Rattle.book.specs.Ran.{Ran}
 use Rattle.book.specs.Runs.{Does, more, Run}
 use Rattle.book.specs.Sizes.{seatCount}

@@ -1,18 +1,16 @@
 -- Snapshots, as a history grows by one event: a commit adds one, and nothing changes one that was there.
-use mathlib.Core.Bool.{Bool, true, false, cond}
-use mathlib.Core.List.{List, [], _∷_}
-use mathlib.Core.Path.{_≡_, refl, sym, ap, subst, _∙_}
+use mathlib.Core.Bool.{false}
+use mathlib.Core.List.{_∷_}
+use mathlib.Core.Path.{_≡_, refl, sym, ap, _∙_}
 use Prim.Native.Nat.{ℕ, suc, zero, _+_, _-_, _≤_, _<_}
 use native.Mathlib.Omega.{arith}
-use lib.Dec.{eqb}
 use Rattle.std.proofs.shelf.Tests.{cond-false, cond-true, eq-eqb, ne-eqb}
-use Rattle.std.specs.declared.option.Option.{Option}
 use Rattle.std.specs.declared.option.Option.the-variants.{None, Some}
 use Rattle.book.specs.Calls.{seatOf}
-use Rattle.book.specs.Histories.{Event, History, lastMade, madeNumber}
+use Rattle.book.specs.Histories.{Event, History, madeNumber}
 use Rattle.book.specs.Replays.{isNumber, putsMade, putsOf, snapshot, snapshotAfter, Start}
 use Rattle.book.specs.Transactions.{current}
-use Rattle.book.specs.Writes.{applied, CellValue, Write}
+use Rattle.book.specs.Writes.{applied}
 
 puts-made-other : (p : ℕ) (e : Event) (h : History) → isNumber p (madeNumber (e .hears)) ≡ false → putsMade p (e ∷ h) ≡ putsMade p h
 puts-made-other p e h other = cond-false (isNumber p (madeNumber (e .hears))) _ _ other

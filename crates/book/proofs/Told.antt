@@ -1,28 +1,25 @@
 -- One call of a run: the relation lasts, and what was told is what the replay works out.
-use mathlib.Core.Bool.{Bool, true, false}
-use mathlib.Core.List.{List, [], _∷_, _++_, map}
-use mathlib.Core.Path.{_≡_, refl, sym, ap, subst, _∙_}
-use Prim.Native.Nat.{ℕ, _+_, _<_}
-use Rattle.std.specs.declared.option.Option.{Option}
-use Rattle.std.specs.declared.option.Option.the-variants.{None, Some}
+use mathlib.Core.List.{_∷_}
+use mathlib.Core.Path.{_≡_, refl, subst}
+use Prim.Native.Nat.{ℕ, _<_}
+use Rattle.std.specs.declared.option.Option.the-variants.{Some}
 use Rattle.book.specs.declared.answer.Answer.{Answer}
-use Rattle.book.specs.declared.answer.Answer.the-variants.{Accepted, Declined, Stepped}
+use Rattle.book.specs.declared.answer.Answer.the-variants.{Stepped}
 use Rattle.book.specs.declared.answer.Word.{Word}
-use Rattle.book.specs.declared.answer.Word.the-variants as words
 use Rattle.book.specs.declared.call.Call.{Call}
 use Rattle.book.specs.declared.call.Call.the-variants as calls
 use Rattle.book.specs.Calls.{seatOf}
 use Rattle.book.specs.Effects as effects
 use Rattle.book.specs.Effects.{Steps}
-use Rattle.book.specs.Histories.{accepted, declined, ended, Event, heard, heardStep, History, moved, put, told, waited}
-use Rattle.book.specs.Law.{stepValue, toldValue}
-use Rattle.book.specs.Meaning.{Meaning, Open, seatPart}
-use Rattle.book.specs.Replays.{Start, workedAnswer, workedBy}
+use Rattle.book.specs.Histories.{heard, History, told}
+use Rattle.book.specs.Law.{toldValue}
+use Rattle.book.specs.Meaning.{Meaning, Open}
+use Rattle.book.specs.Replays.{Start, workedAnswer}
 use Rattle.book.specs.Runs.{accepts, declines, Does, steps}
 use Rattle.book.specs.Sizes.{seatCount}
 use Rattle.book.specs.Transactions.{current, Transaction}
 use Rattle.book.proofs.Acts.{made-extension, open-seat, opened-extension, tied-ended, tied-made, tied-moved, tied-opened, tied-put, tied-told, told-is-worked}
-use Rattle.book.proofs.Extensions.{Extension, quiet, worked-stays}
+use Rattle.book.proofs.Extensions.{Extension, quiet}
 use Rattle.book.proofs.Requests.{seat-within, tied-accepted, tied-declined, tied-waited}
 use Rattle.book.proofs.Tied.{PartTied, SeatTied, Tied}
 

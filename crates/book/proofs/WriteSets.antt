@@ -1,15 +1,14 @@
 -- A write set says as much as all the puts that it was made from.
-use mathlib.Core.Bool.{Bool, true, false, cond}
+use mathlib.Core.Bool.{true, false, cond}
 use mathlib.Core.List.{List, [], _∷_}
 use mathlib.Core.Logic.{_⊎_, inl, inr, ⊎-elim}
-use mathlib.Core.Path.{_≡_, refl, sym, ap, subst, _∙_}
+use mathlib.Core.Path.{_≡_, refl, sym, ap, _∙_}
 use Prim.Native.Nat.{ℕ}
 use lib.Dec.{eqb}
 use lib.ListN.{set}
 use Rattle.std.proofs.shelf.Lists.{set-comm, set-set}
-use Rattle.std.proofs.shelf.Tests.{cases-bool, cond-false, cond-true, eq-eqb, eqb-false, eqb-true, ne-eqb}
-use Rattle.std.specs.declared.option.Option.{Option}
-use Rattle.std.specs.declared.option.Option.the-variants.{None, Some}
+use Rattle.std.proofs.shelf.Tests.{cases-bool, cond-false, cond-true, eqb-false, eqb-true, ne-eqb}
+use Rattle.std.specs.declared.option.Option.the-variants.{Some}
 use Rattle.book.specs.Writes.{applied, CellValue, withPut, Write, written}
 
 -- the write set of puts, given newest first

@@ -1,8 +1,7 @@
 -- Which seat a call is on, and which refusal it meets: the first line of the table in docs/BOOK.md that holds.
 use mathlib.Core.Bool.{Bool, true, false, cond, not, _&&_}
-use mathlib.Core.List.{List, [], _∷_}
 use Prim.Native.Nat.{ℕ, _+_}
-use lib.Dec.{eqb, leb, ltb}
+use lib.Dec.{leb}
 use lib.ListN.{length}
 use Rattle.std.specs.declared.option.Option.{Option}
 use Rattle.std.specs.declared.option.Option.the-variants.{None, Some}
@@ -13,10 +12,10 @@ use Rattle.book.specs.declared.call.Call.the-variants as calls
 use Rattle.book.specs.declared.call.Kind.{Kind}
 use Rattle.book.specs.declared.call.Kind.the-variants.{Reader, Writer}
 use Rattle.book.specs.declared.refusal.Refusal.{Refusal}
-use Rattle.book.specs.declared.refusal.Refusal.the-variants.{CellCount, EvenVersion, NoSuchSeat, SeatNotFree, NumbersUsedUp, SeatFree, SeatBusy, NoSuchCell, PutByReader, WriteSetFull, SeatReady}
+use Rattle.book.specs.declared.refusal.Refusal.the-variants.{NoSuchSeat, SeatNotFree, NumbersUsedUp, SeatFree, SeatBusy, NoSuchCell, PutByReader, WriteSetFull, SeatReady}
 use Rattle.book.specs.Meaning.{Meaning, Open, Sight, made, nothing, seatPart, view}
-use Rattle.book.specs.Sizes.{maxNumber, maxWrites, seatCount}
-use Rattle.book.specs.Writes.{written}
+use Rattle.book.specs.Sizes.{maxNumber, seatCount}
+use Rattle.book.specs.WriteSets.{lacksRoom}
 
 abbrev pub seatOf : Call → ℕ
 seatOf (calls.Open kind seat) = seat
@@ -66,13 +65,9 @@ abbrev pub getRefusal : Meaning → ℕ → Option Open → Option Refusal
 getRefusal m cell None = Some SeatFree
 getRefusal m cell (Some o) = if-then (isBusy o) SeatBusy (if-then (leb (length (m .cells)) cell) NoSuchCell None)
 
--- whether a put of this cell would be one cell too many
-abbrev pub isFull : Open → ℕ → Bool
-isFull o cell = not (isSome (written cell (o .writes))) && leb maxWrites (length (o .writes))
-
 abbrev pub putRefusal : Meaning → ℕ → Option Open → Option Refusal
 putRefusal m cell None = Some SeatFree
-putRefusal m cell (Some o) = if-then (isBusy o) SeatBusy (if-then (leb (length (m .cells)) cell) NoSuchCell (if-then (not (isWriter (o .kind))) PutByReader (if-then (isFull o cell) WriteSetFull None)))
+putRefusal m cell (Some o) = if-then (isBusy o) SeatBusy (if-then (leb (length (m .cells)) cell) NoSuchCell (if-then (not (isWriter (o .kind))) PutByReader (if-then (lacksRoom cell (o .writes)) WriteSetFull None)))
 
 abbrev pub endRefusal : Option Open → Option Refusal
 endRefusal None = Some SeatFree

@@ -1,7 +1,7 @@
 -- What an accepted request and each answered step do to the meaning. Free are the steps owed, who would wait next, and
 -- when an opening receives its view.
 use mathlib.Core.Bool.{Bool, true, false}
-use mathlib.Core.List.{List, [], _∷_}
+use mathlib.Core.List.{List, []}
 use mathlib.Core.Logic.{_⊎_}
 use mathlib.Core.Path.{_≡_}
 use Prim.Native.Nat.{ℕ, _+_, _≤_, _<_}

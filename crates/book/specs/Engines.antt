@@ -2,7 +2,7 @@
 use mathlib.Core.Bool.{Bool, true, false, cond, not, _&&_, _||_}
 use mathlib.Core.List.{List, [], _∷_}
 use mathlib.Core.Path.{_≡_}
-use Prim.Native.Nat.{ℕ, _/_, _%_, _<_}
+use Prim.Native.Nat.{ℕ, _/_, _%_}
 use lib.Dec.{eqb, leb, ltb}
 use lib.ListN.{getD, length, replicate}
 use Rattle.std.specs.declared.option.Option.{Option}
@@ -12,7 +12,7 @@ use Rattle.std.specs.declared.result.Result.the-variants.{Err, Ok}
 use Rattle.std.specs.Options.{isSome}
 use Rattle.std.specs.Results.{Cases}
 use Rattle.book.specs.declared.answer.Answer.{Answer}
-use Rattle.book.specs.declared.answer.Answer.the-variants.{Accepted, Declined}
+use Rattle.book.specs.declared.answer.Answer.the-variants.{Accepted, Declined, Stepped}
 use Rattle.book.specs.declared.answer.Standing.{Standing}
 use Rattle.book.specs.declared.answer.Standing.the-variants.{Busy, Free, Ready}
 use Rattle.book.specs.declared.answer.Word.{Word}
@@ -46,6 +46,12 @@ Asks bound m call m′ same r = Cases r (λ _. (refusalOf m call ≡ None) × Ac
 abbrev pub requestAnswer : Result (Unit {0}) Refusal → Answer
 requestAnswer (Ok _) = Accepted
 requestAnswer (Err refusal) = Declined refusal
+
+-- this holds where the call was declined
+abbrev pub IfDeclined : Answer → Type 0 → Type 0
+IfDeclined Accepted same = Unit {0}
+IfDeclined (Stepped word number) same = Unit {0}
+IfDeclined (Declined refusal) same = same
 
 -- a step answers, or is declined with the engine left as it was
 abbrev pub Answers : Meaning → ℕ → Meaning → Type 0 → Result (Word × ℕ) Refusal → Type 0

@@ -1,6 +1,6 @@
 -- A history: the calls of a run with what may be heard of their answers, the newest first. No value that was told can be
 -- heard: the type has no room for it.
-use mathlib.Core.Bool.{Bool, cond}
+use mathlib.Core.Bool.{cond}
 use mathlib.Core.List.{List, [], _∷_}
 use Prim.Native.Nat.{ℕ, _+_}
 use lib.Dec.{eqb}

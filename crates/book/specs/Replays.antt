@@ -1,5 +1,5 @@
 -- The serial replay: each transaction alone, on the snapshot that its numbers name. It hears no value that was told.
-use mathlib.Core.Bool.{Bool, true, false, cond}
+use mathlib.Core.Bool.{Bool, false, cond}
 use mathlib.Core.List.{List, [], _∷_, _++_}
 use Prim.Native.Nat.{ℕ, suc, zero, _+_, _-_}
 use lib.Dec.{eqb}
@@ -8,7 +8,7 @@ use Rattle.std.specs.declared.option.Option.{Option}
 use Rattle.std.specs.declared.option.Option.the-variants.{None, Some}
 use Rattle.std.specs.Options.{valueOr}
 use Rattle.book.specs.Calls.{seatOf}
-use Rattle.book.specs.Histories.{accepted, declined, ended, Event, Heard, History, lastMade, made, madeNumber, moved, opened, openedNumber, put, told, waited}
+use Rattle.book.specs.Histories.{accepted, declined, ended, Heard, History, lastMade, made, madeNumber, moved, opened, openedNumber, put, told, waited}
 use Rattle.book.specs.Meaning.{ending, getting, opening, putting, Request}
 use Rattle.book.specs.Transactions.{current, place, Transaction}
 use Rattle.book.specs.Writes.{applied, CellValue, Write, written}

@@ -1,5 +1,5 @@
 -- How large a book is.
-use Prim.Native.Nat.{ℕ, _^_, _-_}
+use Prim.Native.Nat.{ℕ, _-_}
 
 -- seats are numbered from 0
 abbrev pub seatCount : ℕ

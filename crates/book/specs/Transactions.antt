@@ -1,5 +1,5 @@
 -- A transaction: an accepted opening with the later accepted requests of its seat, up to the seat's ended.
-use mathlib.Core.Bool.{Bool, cond}
+use mathlib.Core.Bool.{cond}
 use mathlib.Core.List.{List, [], _∷_}
 use Prim.Native.Nat.{ℕ}
 use lib.Dec.{eqb}
@@ -10,7 +10,7 @@ use Rattle.book.specs.declared.call.Call.{Call}
 use Rattle.book.specs.declared.call.Call.the-variants as calls
 use Rattle.book.specs.declared.call.Kind.{Kind}
 use Rattle.book.specs.Calls.{seatOf}
-use Rattle.book.specs.Histories.{accepted, declined, ended, Event, Heard, History, made, moved, opened, put, told, waited}
+use Rattle.book.specs.Histories.{accepted, declined, ended, Heard, History, made, moved, opened, put, told, waited}
 use Rattle.book.specs.Meaning.{ending, getting, opening, putting, Request}
 use Rattle.book.specs.Writes.{Write}
 

@@ -1,8 +1,7 @@
 ghost use mathlib.Core.Path.{_≡_};
-ghost use lib.ListN.{drop, length, take};
+ghost use lib.ListN.{length};
 ghost use Rattle.std.specs.Results.{Cases};
-ghost use Rattle.book.specs.Engines.{noneOpen, requestAnswer, runRefusal, saysFree};
-ghost use Rattle.book.specs.Law.{LawOfRuns};
+ghost use Rattle.book.specs.Engines.{IfDeclined, noneOpen, requestAnswer, runRefusal, saysFree};
 ghost use Rattle.book.specs.Ran.{Ran};
 ghost use Rattle.book.specs.Runs.{Does};
 ghost use Rattle.std.specs.declared.option.Option.the-variants.{None, Some};
@@ -25,7 +24,8 @@ fn accepted(r: Result<(), Refusal>) -> Answer
 
 // Makes one call on an engine.
 pub fn call_on<E: Engine>(engine: &mut E, call: Call) -> Answer
-    ensures { λ r. ⌜ Does bound (meaning (now (engine .entry))) call r (meaning (now (engine .exit))) ⌝ }
+    ensures does { λ r. ⌜ Does bound (meaning (now (engine .entry))) call r (meaning (now (engine .exit))) ⌝ }
+    ensures unchanged { λ r. ⌜ IfDeclined r (now (engine .exit) ≡ now (engine .entry)) ⌝ }
 {
     match call {
         Call::Open { kind, seat } => accepted(engine.open(kind, seat)),

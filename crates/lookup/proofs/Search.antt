@@ -7,7 +7,7 @@ use lib.ListN.{getD, length, take}
 use native.Mathlib.Omega.{arith}
 use Rattle.std.proofs.shelf.Lists.{length-take-le, take-more}
 use Rattle.std.specs.declared.option.Option.{Option}
-use Rattle.std.specs.declared.option.Option.the-variants.{None, Some}
+use Rattle.std.specs.declared.option.Option.the-variants.{Some}
 use Rattle.lookup.specs.Last.{lastMatch, tailFirst}
 
 -- one more element at the end is found, if it passes

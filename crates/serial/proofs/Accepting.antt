@@ -1,8 +1,8 @@
 -- Accepted requests on the serial engine.
-use mathlib.Core.Bool.{Bool, true, false, cond, not, _&&_, _||_}
-use mathlib.Core.List.{List, [], _∷_, map}
+use mathlib.Core.Bool.{Bool, true, false, not, _&&_, _||_}
+use mathlib.Core.List.{List, [], map}
 use mathlib.Core.Logic.{inl, inr}
-use mathlib.Core.Path.{_≡_, refl, sym, ap, subst, _∙_}
+use mathlib.Core.Path.{_≡_, refl, sym, ap, _∙_}
 use Prim.Native.Nat.{ℕ, _+_, _≤_, _<_}
 use native.Mathlib.Omega.{arith}
 use lib.Dec.{eqb, leb, ltb}
@@ -18,12 +18,12 @@ use Rattle.book.specs.declared.call.Call.the-variants as calls
 use Rattle.book.specs.declared.call.Kind.{Kind}
 use Rattle.book.specs.declared.call.Kind.the-variants.{Reader, Writer}
 use Rattle.book.specs.declared.refusal.Refusal.{Refusal}
-use Rattle.book.specs.Calls.{endRefusal, getRefusal, hasMade, if-then, isBusy, isFull, isWriter, numbersTaken, openRefusal, putRefusal, refusalOf, seatOf, seatRefusal, willMake}
-use Rattle.book.specs.Effects.{Accepts, withSeat}
-use Rattle.book.specs.Meaning.{Meaning, Open, seatPart, view}
+use Rattle.book.specs.Calls.{endRefusal, getRefusal, hasMade, if-then, isBusy, isWriter, numbersTaken, openRefusal, putRefusal, refusalOf, seatOf, seatRefusal, willMake}
+use Rattle.book.specs.Effects.{Accepts}
+use Rattle.book.specs.Meaning.{Meaning, Open, seatPart}
 use Rattle.book.specs.Sizes.{maxNumber, maxWrites, seatCount}
 use Rattle.book.specs.Writes.{CellValue, written}
-use Rattle.book.specs.WriteSets.{entries, hasRoom}
+use Rattle.book.specs.WriteSets.{entries, hasRoom, lacksRoom}
 use Rattle.serial.specs.declared.serial.Serial.{Serial}
 use Rattle.serial.specs.declared.state.Stage.{Stage}
 use Rattle.serial.specs.declared.state.Stage.the-variants.{Ending, Getting, Made, Putting, Ready}
@@ -31,7 +31,7 @@ use Rattle.serial.specs.declared.state.State.{State}
 use Rattle.serial.specs.declared.state.Turn.{Turn}
 use Rattle.serial.specs.Moves.{Asked, askedFor, turnAt, waitingAt}
 use Rattle.serial.specs.Rooms.{stageRoom, turnRoom}
-use Rattle.serial.specs.Seats.{partAt, partBy, turnOf}
+use Rattle.serial.specs.Seats.{partBy, turnOf}
 use Rattle.serial.specs.States.{hasTurn, latest, meaningOf, stageOwed, stageRequest, stageSight, turnPart, turnSeat, waitingPart, withTurn}
 use Rattle.serial.proofs.Parts.{part-is, seats-sized}
 use Rattle.serial.proofs.SeatLists.{count-set, goes-on, one, waits-now}
@@ -264,5 +264,5 @@ put-fits st sound seat cell value e t is =
     let after-busy = none-above (isBusy o) _ _ refusal .1 in
     let after-cell = none-above (leb (length (latest st)) cell) _ _ after-busy .1 in
     let after-kind = none-above (not (isWriter (t .kind))) _ _ after-cell .1 in
-    let not-full = none-above (isFull o cell) _ None after-kind .0 in
+    let not-full = none-above (lacksRoom cell (entries (t .writes))) _ None after-kind .0 in
     ap (λ (b : Bool). isSome (written cell (entries (t .writes))) || b) (sym (not-leb maxWrites (length (entries (t .writes))))) ∙ room-left (isSome (written cell (entries (t .writes)))) (leb maxWrites (length (entries (t .writes)))) not-full

@@ -1,12 +1,11 @@
 -- The parts of the seats in the meaning, one by one.
-use mathlib.Core.Bool.{Bool, true, false, cond}
-use mathlib.Core.List.{List, [], _∷_, map}
+use mathlib.Core.List.{List, map}
 use mathlib.Core.Logic.{inl, inr}
-use mathlib.Core.Path.{_≡_, refl, sym, ap, subst, _∙_}
-use Prim.Native.Nat.{ℕ, _+_, _≤_, _<_}
+use mathlib.Core.Path.{_≡_, sym, ap, _∙_}
+use Prim.Native.Nat.{ℕ, _<_}
 use native.Mathlib.Omega.{arith}
 use lib.Dec.{eqb, leb}
-use lib.ListN.{getD, length, length-map, length-set, set, take}
+use lib.ListN.{getD, length, length-map, length-set, set}
 use Rattle.std.proofs.shelf.Lists.{getD-map, getD-set-other, getD-set-same}
 use Rattle.std.proofs.shelf.Tests.{cases-bool, cond-false, cond-true, eqb-false, eqb-true, lt-leb}
 use Rattle.std.specs.declared.option.Option.{Option}
@@ -17,7 +16,6 @@ use Rattle.book.specs.declared.refusal.Refusal.{Refusal}
 use Rattle.book.specs.Calls.{endRefusal, getRefusal, openRefusal, putRefusal, refusalOf, seatOf, seatRefusal, stepRefusal}
 use Rattle.book.specs.Meaning.{Open, seatPart}
 use Rattle.book.specs.Sizes.{seatCount}
-use Rattle.book.specs.Writes.{CellValue}
 use Rattle.serial.specs.declared.state.State.{State}
 use Rattle.serial.specs.declared.state.Turn.{Turn}
 use Rattle.serial.specs.Seats.{partAt, partBy, turnOf}

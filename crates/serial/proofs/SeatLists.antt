@@ -1,14 +1,13 @@
 -- What the moves of the serial engine do to the seats of its meaning.
-use mathlib.Core.Bool.{Bool, true, false, cond}
-use mathlib.Core.List.{List, [], _∷_, map}
-use mathlib.Core.Path.{_≡_, refl, sym, ap, subst, _∙_}
+use mathlib.Core.Bool.{Bool, false, cond}
+use mathlib.Core.List.{List, map}
+use mathlib.Core.Path.{_≡_, sym, ap, _∙_}
 use Prim.Native.Nat.{ℕ, _+_, _≤_, _<_}
 use native.Mathlib.Omega.{arith}
-use lib.Dec.{eqb}
 use lib.ListN.{getD, length, set}
 use Rattle.std.proofs.shelf.Lists.{map-set, set-comm, set-set}
 use Rattle.std.proofs.shelf.Sums.{sumBy-set}
-use Rattle.std.proofs.shelf.Tests.{eqb-false, eqb-true}
+use Rattle.std.proofs.shelf.Tests.{eqb-false}
 use Rattle.std.specs.declared.option.Option.{Option}
 use Rattle.std.specs.declared.option.Option.the-variants.{None, Some}
 use Rattle.std.specs.shelf.Lists.{countBy}

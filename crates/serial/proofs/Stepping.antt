@@ -1,28 +1,27 @@
 -- Steps of the serial engine.
-use mathlib.Core.Bool.{Bool, true, false, cond, not, _&&_}
+use mathlib.Core.Bool.{Bool, true, false, not, _&&_}
 use mathlib.Core.List.{List, [], _∷_, _++_, map}
-use mathlib.Core.Logic.{_⊎_, inl, inr, ⊎-elim}
+use mathlib.Core.Logic.{_⊎_, inl, inr}
 use mathlib.Core.Path.{_≡_, refl, sym, ap, subst, _∙_}
 use Prim.Native.Nat.{ℕ, _+_, _-_, _≤_, _<_}
 use native.Mathlib.Omega.{arith}
-use lib.Dec.{eqb, leb}
+use lib.Dec.{eqb}
 use lib.ListN.{drop, getD, length, length-append, length-drop, length-set, set, take}
 use Rattle.std.proofs.shelf.Lists.{drop-more, length-take-le, take-at}
 use Rattle.std.proofs.shelf.Tests.{cond-true, eq-eqb, true≢false}
 use Rattle.std.specs.declared.option.Option.{Option}
 use Rattle.std.specs.declared.option.Option.the-variants.{None, Some}
-use Rattle.std.specs.Options.{isSome, valueOr}
-use Rattle.std.specs.shelf.Lists.{countBy}
+use Rattle.std.specs.Options.{isSome}
 use Rattle.book.specs.declared.answer.Word.{Word}
 use Rattle.book.specs.declared.answer.Word.the-variants as words
 use Rattle.book.specs.declared.call.Call.the-variants as calls
 use Rattle.book.specs.declared.call.Kind.{Kind}
 use Rattle.book.specs.declared.call.Kind.the-variants.{Reader, Writer}
 use Rattle.book.specs.declared.write_set.WriteSet.{WriteSet}
-use Rattle.book.specs.Calls.{hasMade, isBusy, isWriter, numbersTaken, refusalOf, stepRefusal, willMake}
+use Rattle.book.specs.Calls.{hasMade, isWriter, numbersTaken, refusalOf, stepRefusal, willMake}
 use Rattle.book.specs.Effects as effects
 use Rattle.book.specs.Effects.{committed, onward, Steps, tells, withSeat}
-use Rattle.book.specs.Meaning.{ending, getting, made, Meaning, nothing, Open, opening, putting, seatPart, Sight, view}
+use Rattle.book.specs.Meaning.{made, Meaning, nothing, Open, opening, seatPart, Sight, view}
 use Rattle.book.specs.Writes.{applied, CellValue, withPut, Write, written}
 use Rattle.book.specs.WriteSets.{entries, hasRoom}
 use Rattle.serial.specs.declared.state.Stage.{Stage}

@@ -1,5 +1,5 @@
 -- What the moves of the serial engine promise.
-use mathlib.Core.Bool.{Bool, true}
+use mathlib.Core.Bool.{Bool}
 use mathlib.Core.List.{List}
 use mathlib.Core.Path.{_≡_}
 use Prim.Native.Nat.{ℕ, _+_, _≤_}
@@ -16,7 +16,7 @@ use Rattle.book.specs.Writes.{CellValue}
 use Rattle.serial.specs.declared.state.Stage.the-variants.{Made, Ready}
 use Rattle.serial.specs.declared.state.State.{State}
 use Rattle.serial.specs.declared.state.Turn.{Turn}
-use Rattle.serial.specs.States.{latest, meaningOf, stageRequest, turnPart}
+use Rattle.serial.specs.States.{latest, meaningOf, turnPart}
 
 abbrev pub askedFor : Option Request → ℕ → Option Open → Option Open
 askedFor None owed part = part

@@ -1,7 +1,7 @@
 // What the engine's state becomes and what is answered, move by move.
 ghost use mathlib.Core.Path.{_≡_};
 ghost use Prim.Native.Nat.{_+_, _<_, _≤_};
-ghost use lib.ListN.{getD, length, set, take};
+ghost use lib.ListN.{getD, length, take};
 ghost use Rattle.std.specs.declared.option.Option.the-variants.{None, Some};
 ghost use Rattle.std.specs.Options.{valueOr};
 ghost use Rattle.book.specs.declared.answer.Word.the-variants.{Ended, Made, Opened, Told};

@@ -1,11 +1,10 @@
 -- What the text of a number of 32 bits looks like, and that such a text is the one of its value.
-use mathlib.Core.Bool.{true, not, _&&_}
+use mathlib.Core.Bool.{true, not}
 use mathlib.Core.Path.{_≡_, refl, sym, ap, subst, _∙_}
 use mathlib.Core.List.{List, [], _∷_}
 use mathlib.Core.Logic.{⊎-elim}
 use Prim.Native.Nat.{ℕ, _+_, _-_, _*_, _^_, _≤_, _<_}
 use native.Mathlib.Omega.{arith}
-use borrow.Author.Needs.{needs}
 use lib.Dec.{eqb, leb}
 use lib.ListN.{length, getD, take, length-take}
 use Rattle.std.proofs.shelf.Decimals.{decimal-some, decimal-digit, first-decimal, length-decimal-le, digits-decimal, value-decimal, decimal-value}

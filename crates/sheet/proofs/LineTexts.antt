@@ -10,7 +10,6 @@ use Rattle.std.specs.shelf.Lists.{All}
 use Rattle.std.specs.Written.{decimal}
 use Rattle.book.specs.declared.call.Call.{Call}
 use Rattle.book.specs.declared.call.Call.the-variants.{Open, Get, Put, End, Step}
-use Rattle.book.specs.declared.call.Kind.{Kind}
 use Rattle.book.specs.declared.call.Kind.the-variants.{Reader, Writer}
 use Rattle.sheet.specs.declared.cursor.Cursor.{Cursor}
 use Rattle.sheet.specs.declared.heading.EngineChoice.{EngineChoice}
@@ -19,7 +18,7 @@ use Rattle.sheet.specs.Lines.{LineLetter, NoLine}
 use Rattle.sheet.specs.Numbers.{Fits32}
 use Rattle.sheet.specs.Places.{rest, Passed}
 use Rattle.sheet.specs.Readings.{NoCall, NoHeading, ReadsCall, ReadsCallLine}
-use Rattle.sheet.specs.Texts.{callLetter, callNumbers, CallFits, callText, engineLetter, headingText, lineText, operandsText, spaced}
+use Rattle.sheet.specs.Texts.{callLetter, callNumbers, engineLetter, headingText, lineText, spaced}
 use Rattle.sheet.proofs.ReadLines.{no-such-head, same-tail, same-number, spaced-ends}
 
 numbers-tell : (ns ms t u : List ℕ) → All Fits32 ns → All Fits32 ms → spaced ns ++ (10 ∷ t) ≡ spaced ms ++ (10 ∷ u) → (ns ≡ ms) × (t ≡ u)

@@ -1,12 +1,11 @@
 -- A number after one space: how it is found, and that nothing else is one.
-use mathlib.Core.Bool.{Bool, true, false, cond, not}
+use mathlib.Core.Bool.{true, not}
 use mathlib.Core.List.{List, [], _∷_, _++_}
-use mathlib.Core.Path.{_≡_, refl, sym, ap, subst, _∙_}
-use Prim.Native.Nat.{ℕ, _+_, _≤_, _<_}
-use native.Mathlib.Nat.{add-zero}
+use mathlib.Core.Path.{_≡_, refl, sym, ap, _∙_}
+use Prim.Native.Nat.{ℕ, _+_}
 use native.Mathlib.Omega.{arith}
 use lib.Dec.{eqb}
-use lib.ListN.{length, getD, take, drop, take-append-drop}
+use lib.ListN.{length, getD, drop, take-append-drop}
 use Rattle.std.proofs.shelf.Lists.{drop-drop}
 use Rattle.std.proofs.shelf.Numerals.{digit-at, digit-from-value}
 use Rattle.std.proofs.shelf.Tests.{and-parts}
@@ -15,9 +14,8 @@ use Rattle.std.specs.declared.option.Option.{Option}
 use Rattle.std.specs.declared.option.Option.the-variants.{Some, None}
 use Rattle.std.specs.Reads.{Digits}
 use Rattle.std.specs.Written.{decimal}
-use Rattle.std.specs.shelf.Lists.{All}
 use Rattle.sheet.specs.declared.cursor.Cursor.{Cursor}
-use Rattle.sheet.specs.Fields.{digit, isLetter, separator, startsWith, word, wordLength}
+use Rattle.sheet.specs.Fields.{digit, isLetter, startsWith, word, wordLength}
 use Rattle.sheet.specs.Lines.{FieldEnds, NoOperand, ReadsOperand}
 use Rattle.sheet.specs.Numbers.{Fits32, ReadsNumber}
 use Rattle.sheet.specs.Places.{rest, Moved, Passed}

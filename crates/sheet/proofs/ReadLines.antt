@@ -1,8 +1,8 @@
 -- The numbers of a line are read one by one. What is read so far tells each text that could stand there.
-use mathlib.Core.Bool.{Bool, true, false, cond, not}
+use mathlib.Core.Bool.{true, false, not}
 use mathlib.Core.List.{List, [], _∷_, _++_, append-assoc, append-nil}
 use mathlib.Core.Path.{_≡_, refl, sym, ap, subst, _∙_}
-use Prim.Native.Nat.{ℕ, _+_, _^_, _≤_, _<_}
+use Prim.Native.Nat.{ℕ, _+_}
 use native.Mathlib.Omega.{arith}
 use lib.Dec.{eqb}
 use lib.ListN.{length, drop, getD}
@@ -12,7 +12,7 @@ use Rattle.std.proofs.shelf.Lists.{append-cancel-left, same-lists, places}
 use Rattle.std.proofs.shelf.Tests.{true≢false, not-from-false, and-parts, eqb-true}
 use Rattle.std.specs.Written.{decimal}
 use Rattle.std.specs.shelf.Lists.{All}
-use Rattle.sheet.specs.Fields.{digit, isLetter, startsWith, word, wordLength}
+use Rattle.sheet.specs.Fields.{digit, isLetter, startsWith, word}
 use Rattle.sheet.specs.Lines.{FieldEnds, LineLetter, NoLine, NoOperand, NoOperands}
 use Rattle.sheet.specs.Numbers.{Fits32}
 use Rattle.sheet.specs.Texts.{spaced, operandsText, lineText}

@@ -1,7 +1,7 @@
 -- From a heading and the calls behind it to the whole sheet.
 use mathlib.Core.List.{List, [], _∷_, _++_, append-assoc, append-nil}
-use mathlib.Core.Path.{_≡_, refl, sym, ap, subst, _∙_}
-use Prim.Native.Nat.{ℕ, _+_, _≤_, _<_}
+use mathlib.Core.Path.{_≡_, sym, ap, _∙_}
+use Prim.Native.Nat.{ℕ, _+_, _≤_}
 use lib.ListN.{length, drop}
 use Rattle.std.specs.shelf.Lists.{All}
 use Rattle.book.specs.declared.call.Call.{Call}
@@ -10,9 +10,9 @@ use Rattle.sheet.specs.declared.error.ReadError.{ReadError}
 use Rattle.sheet.specs.declared.heading.EngineChoice.{EngineChoice}
 use Rattle.sheet.specs.CallLists as lists
 use Rattle.sheet.specs.CallLists.{AllCalls, CallsFront, StopsCalls}
-use Rattle.sheet.specs.Limits.{maxBytes, maxCalls}
+use Rattle.sheet.specs.Limits.{maxBytes}
 use Rattle.sheet.specs.Numbers.{Fits32}
-use Rattle.sheet.specs.Outcomes.{Content, Fails, Front, Reads, no-call, readable, sheetText, too-many-calls, whole}
+use Rattle.sheet.specs.Outcomes.{Content, Fails, Front, Reads, no-call, readable, too-many-calls, whole}
 use Rattle.sheet.specs.Places.{AtStart, rest}
 use Rattle.sheet.specs.Texts.{callsText, headingText}
 

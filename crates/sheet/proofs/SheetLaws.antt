@@ -2,22 +2,21 @@
 use mathlib.Core.Bool.{cond}
 use mathlib.Core.List.{List, [], _∷_, _++_, append-assoc, append-nil}
 use mathlib.Core.Logic.{_⊎_, inl, inr, ⊎-elim}
-use mathlib.Core.Path.{_≡_, refl, sym, ap, subst, _∙_}
+use mathlib.Core.Path.{_≡_, refl, sym, ap, _∙_}
 use Prim.Native.Nat.{ℕ, _+_, _≤_, _<_}
 use native.Mathlib.Omega.{arith}
 use lib.Dec.{eqb}
-use lib.ListN.{length, getD, drop, length-append}
+use lib.ListN.{length, getD, drop}
 use Rattle.std.specs.shelf.Lists.{All}
 use Rattle.book.specs.declared.call.Call.{Call}
 use Rattle.book.specs.declared.call.Call.the-variants.{Open, Get, Put, End, Step}
 use Rattle.book.specs.declared.call.Kind.the-variants.{Reader, Writer}
-use Rattle.book.specs.declared.refusal.Refusal.the-variants.{UnreadableLine, SheetTooLong}
+use Rattle.book.specs.declared.refusal.Refusal.the-variants.{UnreadableLine}
 use Rattle.sheet.specs.declared.heading.EngineChoice.{EngineChoice}
 use Rattle.sheet.specs.declared.heading.EngineChoice.the-variants.{Pessimistic, Serial}
 use Rattle.sheet.specs.Laws.{CallsHaveOwnTexts, HeadingsHaveOwnTexts, OutcomeIsUnique, ReadingLaws, WrittenIsReadBack}
-use Rattle.sheet.specs.Limits.{maxBytes, maxCalls}
 use Rattle.sheet.specs.Numbers.{Fits32}
-use Rattle.sheet.specs.Outcomes.{Content, ContentFits, Front, Outcome, Reads, declined, no-call, no-heading, readable, sheetText, too-many-bytes, too-many-calls, whole}
+use Rattle.sheet.specs.Outcomes.{Content, Front, declined, no-call, no-heading, readable, sheetText, too-many-bytes, too-many-calls, whole}
 use Rattle.sheet.specs.Readings.{NoCall, NoHeading}
 use Rattle.sheet.specs.Texts.{CallFits, callLetter, callNumbers, callsText, callText, engineLetter, headingText}
 use Rattle.sheet.proofs.LineTexts.{line-tells}

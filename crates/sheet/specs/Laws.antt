@@ -1,5 +1,5 @@
 -- What holds of the texts of headings, calls and sheets, whatever reads them.
-use mathlib.Core.List.{List, _∷_, _++_}
+use mathlib.Core.List.{List, _∷_}
 use mathlib.Core.Path.{_≡_}
 use Prim.Native.Nat.{ℕ, _≤_}
 use lib.ListN.{length}

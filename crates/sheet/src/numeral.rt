@@ -1,5 +1,4 @@
 ghost use mathlib.Core.Path.{_≡_};
-ghost use lib.ListN.{length};
 ghost use Rattle.sheet.specs.Fields.{digit};
 ghost use Rattle.sheet.specs.Numbers.{ReadsNumber, numberShape};
 

@@ -1,4 +1,4 @@
-use mathlib.Core.Path.{_≡_, refl, sym, _∙_}
+use mathlib.Core.Path.{refl, sym}
 use native.Mathlib.Omega.{arith}
 use Rattle.book.specs.Runs.{none}
 use Rattle.book.proofs.Running.{ran, rest-more, run-accepted, run-more}
@@ -9,7 +9,7 @@ loop-i-holds g c = (none, refl)
 
 pub loop-i-again : need.loop-i-again
 loop-i-again g c =
-    (run-more _ _ _ _ (c .args .calls .now) (c .loop-i .answers) (c .loop-i .i) _ _ (c .loop-i-test .taken) (omega arith) (c .loop-i .inv .0) (c .call-on .ensures), rest-more (c .loop-i .answers) (c .args .answers .now) (c .loop-i .i) (c .call-on .result) (c .loop-i .inv .1))
+    (run-more _ _ _ _ (c .args .calls .now) (c .loop-i .answers) (c .loop-i .i) _ _ (c .loop-i-test .taken) (omega arith) (c .loop-i .inv .0) (c .call-on .ensures .does), rest-more (c .loop-i .answers) (c .args .answers .now) (c .loop-i .i) (c .call-on .result) (c .loop-i .inv .1))
 
 pub returns : need.returns
 returns g c =

@@ -1,10 +1,9 @@
 use mathlib.Core.List.{List}
-use mathlib.Core.Path.{_≡_, sym, ap, _∙_}
-use Prim.Native.Nat.{ℕ}
+use mathlib.Core.Path.{sym, ap, _∙_}
 use native.Mathlib.Omega.{arith}
-use lib.ListN.{drop, length, set}
+use lib.ListN.{length}
 use Rattle.std.proofs.shelf.Lists.{drop-all, set-past}
-use Rattle.book.specs.Writes.{applied, CellValue, Write}
+use Rattle.book.specs.Writes.{applied, Write}
 use Rattle.serial.proofs.Stepping.{write-more}
 use Rattle.serial.proofs.steps.write_all.Needs as need
 

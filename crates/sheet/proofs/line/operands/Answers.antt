@@ -1,13 +1,9 @@
-use mathlib.Core.List.{List, []}
-use mathlib.Core.Path.{_≡_, refl, sym, ap, subst, _∙_}
-use Prim.Native.Nat.{ℕ}
+use mathlib.Core.Path.{refl, sym, ap, _∙_}
 use native.Mathlib.Omega.{arith}
 use lib.ListN.{length, length-append}
-use Rattle.sheet.specs.Places.{rest}
 use Rattle.sheet.proofs.Operands.{moved-rest}
-use Rattle.sheet.proofs.ReadLines.{Begun, not-begun, begun-more, begun-done}
+use Rattle.sheet.proofs.ReadLines.{not-begun, begun-more, begun-done}
 use Rattle.sheet.proofs.line.operands.Needs as need
-use Rattle.sheet.proofs.line.operands.Needs.{In-rest, In-Continue-push}
 
 pub loop-cursor-holds : need.loop-cursor-holds
 loop-cursor-holds c = (rw (c .clear .ensures .items) (record { fits = tt; split = refl; ends = c .pre }), refl)

@@ -1,12 +1,11 @@
-use mathlib.Core.List.{List}
-use mathlib.Core.Path.{_≡_, refl, sym, ap, subst, _∙_}
-use Prim.Native.Nat.{ℕ, _+_}
+use mathlib.Core.Path.{_≡_, refl, sym, ap, _∙_}
+use Prim.Native.Nat.{_+_}
 use native.Mathlib.Omega.{arith}
 use lib.ListN.{length, length-set, length-take, set, take}
 use Rattle.std.proofs.shelf.Lists.{take-more-set}
 use Rattle.std.proofs.shelf.Tests.{eqb-false, eqb-true}
 use Rattle.book.specs.Distinct.{distinct}
-use Rattle.book.specs.Writes.{withPut, Write}
+use Rattle.book.specs.Writes.{withPut}
 use Rattle.book.specs.WriteSets.{entries}
 use Rattle.book.proofs.WriteSearch.{distinct-put, front-within, new-put, room-found, room-new, room-none, take-set-front}
 use Rattle.book.proofs.write_set.WriteSet.put.Needs as need

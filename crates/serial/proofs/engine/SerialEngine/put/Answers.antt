@@ -1,4 +1,4 @@
-use mathlib.Core.Path.{_≡_, refl, sym, _∙_}
+use mathlib.Core.Path.{refl, sym, _∙_}
 use Rattle.serial.specs.States.{meaningOf}
 use Rattle.serial.proofs.Accepting.{put-fits, put-idle, sound-of}
 use Rattle.serial.proofs.engine.SerialEngine.put.Needs as need

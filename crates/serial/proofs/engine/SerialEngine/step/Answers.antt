@@ -1,7 +1,5 @@
-use mathlib.Core.Path.{_≡_, sym, ap, subst, _∙_}
+use mathlib.Core.Path.{sym, subst, _∙_}
 use Prim.Native.Nat.{ℕ}
-use Rattle.book.specs.Calls.{refusalOf}
-use Rattle.book.specs.Meaning.{seatPart}
 use Rattle.serial.specs.Moves.{SeatSteps}
 use Rattle.serial.specs.States.{latest, meaningOf, turnPart}
 use Rattle.serial.proofs.Accepting.{sound-of}

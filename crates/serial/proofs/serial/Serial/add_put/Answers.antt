@@ -1,4 +1,4 @@
-use mathlib.Core.Path.{_≡_, sym, ap, _∙_}
+use mathlib.Core.Path.{ap, _∙_}
 use Rattle.std.proofs.shelf.Tests.{cond-true}
 use Rattle.book.specs.Calls.{hasMade}
 use Rattle.serial.specs.declared.state.Stage.{Stage}

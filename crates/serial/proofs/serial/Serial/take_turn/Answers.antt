@@ -1,4 +1,4 @@
-use mathlib.Core.Path.{_≡_, sym, subst, _∙_}
+use mathlib.Core.Path.{sym, subst}
 use Rattle.serial.proofs.Accepting.{Sound, sound-of}
 use Rattle.serial.proofs.Stepping.{opens-now, some-waits, steps-to, taken-sound}
 use Rattle.serial.proofs.serial.Serial.take_turn.Needs as need

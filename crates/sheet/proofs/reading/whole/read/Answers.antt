@@ -1,4 +1,3 @@
-use mathlib.Core.List.{List}
 use mathlib.Core.Path.{_≡_, sym, subst, _∙_}
 use Prim.Native.Nat.{ℕ}
 use native.Mathlib.Omega.{arith}
@@ -8,7 +7,7 @@ use Rattle.sheet.specs.CallLists.{StopsCalls}
 use Rattle.sheet.specs.Limits.{maxBytes}
 use Rattle.sheet.specs.Outcomes.{too-many-bytes, no-heading}
 use Rattle.sheet.specs.Places.{rest}
-use Rattle.sheet.specs.Readings.{NoHeading, ReadsHeadingLine}
+use Rattle.sheet.specs.Readings.{NoHeading}
 use Rattle.sheet.proofs.SheetFronts.{start-rest, stops, reads}
 use Rattle.sheet.proofs.SheetLaws.{reading-laws}
 use Rattle.sheet.proofs.reading.whole.read.Needs as need

@@ -1,7 +1,7 @@
 use mathlib.Core.List.{append-nil}
-use mathlib.Core.Path.{_≡_, sym, ap, _∙_}
+use mathlib.Core.Path.{sym, ap, _∙_}
 use mathlib.Core.List.{List, _++_}
-use Prim.Native.Nat.{ℕ, _<_}
+use Prim.Native.Nat.{ℕ}
 use native.Mathlib.Omega.{arith}
 use lib.ListN.{length, length-append}
 use Rattle.std.proofs.shelf.Lists.{nil-from-length, length-push}
@@ -10,7 +10,6 @@ use Rattle.std.proofs.shelf.Tests.{eqb-true, eqb-false}
 use Rattle.std.specs.Of.Vec.{vec-items}
 use Rattle.sheet.specs.CallLists.{too-many-calls, no-memory}
 use Rattle.sheet.specs.Limits.{maxCalls}
-use Rattle.sheet.specs.Places.{rest}
 use Rattle.sheet.specs.Texts.{callsText}
 use Rattle.sheet.proofs.CallFronts.{front-push, stops-at}
 use Rattle.sheet.proofs.reading.whole.read_calls.Needs as need
