@@ -120,6 +120,7 @@ module _ (bound : ℕ) (start : Start) (h : History) (m : Meaning) (tied : Tied 
   pub numbers : NumbersAreRight (start .number) h
   numbers = record {
     commit-numbers-rise-by-one = λ e old p happens makes. tied .made-facts e old p happens makes .2 .counted-from-start;
+    every-number-has-a-maker = λ e old p happens makes. let fact = tied .made-facts e old p happens makes in (fact .0, record { happens = happens; belongs = fact .1 });
     each-number-has-one-maker = one-maker;
     opened-between-opening-and-answer = λ e old t v to opens. tied .opened-facts e old t v (to .happens) opens (to .belongs);
     made-number-follows-opened-number = λ e old t p to makes. let fact = made-fact e old t p to makes in (fact .view-number, fact .opened-on, fact .follows);

@@ -60,6 +60,8 @@ pub record AnswersTo (h : History) (e : Event) (old : History) (t : Transaction)
 pub record NumbersAreRight (start : ℕ) (h : History) : Type 0 where
   -- the k-th made answer has the number start + k
   pub commit-numbers-rise-by-one : (e : Event) (old : History) (p : ℕ) → Happens h e old → madeNumber (e .hears) ≡ Some p → p ≡ start + (madeCount old + 1)
+  -- each made answer is an answer to a transaction
+  pub every-number-has-a-maker : (e : Event) (old : History) (p : ℕ) → Happens h e old → madeNumber (e .hears) ≡ Some p → (t : Transaction) × AnswersTo h e old t
   -- two made numbers are equal exactly when one transaction made both
   pub each-number-has-one-maker : (e f : Event) (old older : History) (t u : Transaction) (p q : ℕ) → AnswersTo h e old t → AnswersTo h f older u → madeNumber (e .hears) ≡ Some p → madeNumber (f .hears) ≡ Some q → (p ≡ q → place t ≡ place u) × (place t ≡ place u → p ≡ q)
   -- a transaction opens on a snapshot of its own time
