@@ -2,23 +2,21 @@
 use Rattle.std.proofs.Common.{◌≡◌, ℕ, ◌+◌, ◌<◌, ◌≤◌, Bool, eqb, ◌⊎◌, List, ◌∷◌, get_or, Some, None, Option, unwrap_or, sym, refl, ap, ◌∙◌, subst, inl, inr, ⊎_elim, arith}
 use Rattle.std.proofs.lemmas.Bool.{cond-true, eq-eqb}
 use Rattle.book.specs.declared.call.Call.TheVariants as calls
-use Rattle.book.specs.declared.heard.Heard.{Heard}
-use Rattle.book.specs.declared.heard.Heard.TheVariants.{Ended as ended, Made as made, Moved as moved, Opened as opened, Put as put, Told as told}
 use Rattle.book.specs.Calls.{seat_of}
 use Rattle.book.specs.Effects.{committed, MaySee, onward, tells, with_seat}
-use Rattle.book.specs.Histories.{counted, Event, History, last_made, made_number, opened_number, steps_taken}
+use Rattle.book.specs.Histories.{counted, ended, Event, Heard, History, last_made, made, made_number, moved, opened, opened_number, put, steps_taken, told}
 use Rattle.book.specs.Law.{made_count, one_if_made}
 use Rattle.book.specs.Meaning.{ending, getting, made as made-sight, Meaning, nothing, Open, opening, putting, Request, Sight, view}
 use Rattle.book.specs.Replays.{base, made_as, opened_as, puts_of, snapshot, Start, worked_answer, worked_get, worked_told}
 use Rattle.book.specs.Sizes.{seat_count}
 use Rattle.book.specs.Transactions.{current, going_on, place, Transaction, with_asked}
-use Rattle.book.specs.Writes.{applied, CellValue, with_put, Write, write_set, written}
-use Rattle.book.proofs.Extensions.{Extension, fixed_stays, making_event, opening_event, quiet, same_some, sees_stays, told_base}
+use Rattle.book.specs.Writes.{applied, CellValue, with_put, Write, written}
+use Rattle.book.proofs.Extensions.{Extension, fixed_stays, making_event, opening_event, quiet, same_some, sees_stays, told-base}
 use Rattle.book.proofs.Growing.{Grown, grown}
 use Rattle.book.proofs.Places.{current-same, number_given, number-quiet}
 use Rattle.book.proofs.Snapshots.{snapshot-made}
 use Rattle.book.proofs.Tied.{Fixed, MadeFact, PartTied, Sees, SeatTied, Tied}
-use Rattle.book.proofs.WriteSets.{write_set-applied, write_set-written}
+use Rattle.book.proofs.WriteSets.{write_set, write_set-applied, write_set-written}
 
 no_number : (p : ℕ) → ◌≡◌ {A = Option ℕ} None (Some p) → ⊥
 no_number p e = let z : ◌≡◌ {A = ℕ} 0 1 = cc in omega arith
@@ -98,11 +96,11 @@ module _ (bound : ℕ) (start : Start) (h : History) (m : Meaning) (tied : Tied 
   few-after hears one some = omega (arith, seat.owes, taken hears, one)
 
   -- moved
-  moved_sees : (sight : Sight) → MaySee m o sight → Sees start (step moved ∷ h) t sight
-  moved_sees sight (inl same) =
+  moved-sees : (sight : Sight) → MaySee m o sight → Sees start (step moved ∷ h) t sight
+  moved-sees sight (inl same) =
       let x = quiet start (step moved) h refl refl in
       subst (Sees start (step moved ∷ h) t) (sym same) (sees_stays bound start (step moved) h x t o.sight (number-quiet opened_number (place t) (step moved) h refl) (number-quiet made_number (place t) (step moved) h refl) seat.sees)
-  moved_sees sight (inr (asks, none, latest)) =
+  moved-sees sight (inr (asks, none, latest)) =
       let x = quiet start (step moved) h refl refl in
       let saw = subst (Sees start h t) none seat.sees in
       subst (Sees start (step moved ∷ h) t) (sym latest) (record {
@@ -126,7 +124,7 @@ module _ (bound : ℕ) (start : Start) (h : History) (m : Meaning) (tied : Tied 
         writes = seat.writes;
         begun = seat.begun;
         owes = omega (arith, seat.owes, taken moved);
-        sees = moved_sees sight may;
+        sees = moved-sees sight may;
       } in
       grown bound start (step moved) h m (with_seat m s part w) part tied
       (quiet-grown bound start (step moved) h m (with_seat m s part w) part tied refl refl refl refl (subst (λ u. PartTied bound start (step moved ∷ h) s u part) (sym (now_at moved)) own) (few-after moved refl (omega arith)) (λ u tells _. absurd (not_told tells)))
@@ -136,8 +134,8 @@ module _ (bound : ℕ) (start : Start) (h : History) (m : Meaning) (tied : Tied 
       not_told e = let z : ◌≡◌ {A = ℕ} 0 1 = cc in omega arith
 
   -- told
-  pub told_number : (cell : ℕ) → o.request ≡ Some (getting cell) → (number : ℕ) (cells : List CellValue) → o.sight ≡ view number cells → Fixed start (step told ∷ h) (place t) number × (cells ≡ snapshot start h number) × (number ≤ last_made start.number h)
-  told_number cell asks number cells saw =
+  pub told-number : (cell : ℕ) → o.request ≡ Some (getting cell) → (number : ℕ) (cells : List CellValue) → o.sight ≡ view number cells → Fixed start (step told ∷ h) (place t) number × (cells ≡ snapshot start h number) × (number ≤ last_made start.number h)
+  told-number cell asks number cells saw =
       let x = quiet start (step told) h refl refl in
       let sees = subst (Sees start h t) saw seat.sees in
       let on : opened_as (place t) h ≡ Some number = ⊎_elim (λ a. absurd (not_same_request opening (getting cell) t.asks a.0 (seat.requests ∙ asks) (λ e. let z : ◌≡◌ {A = ℕ} 0 1 = cc in omega arith))) (λ b. b.1) sees.opens in
@@ -152,13 +150,13 @@ module _ (bound : ℕ) (start : Start) (h : History) (m : Meaning) (tied : Tied 
   none-asked : ◌≡◌ {A = Option Request} None (Some opening) → ⊥
   none-asked e = let z : ◌≡◌ {A = ℕ} 0 1 = cc in omega arith
 
-  pub tied_told : (cell : ℕ) → o.request ≡ Some (getting cell) → (number : ℕ) (cells : List CellValue) → o.sight ≡ view number cells → (owed : ℕ) → owed < o.owed → (w : ℕ → Bool) → Tied bound start (step told ∷ h) (with_seat m s (onward o None o.sight o.writes owed) w)
-  tied_told cell asks number cells saw owed fewer w =
+  pub tied-told : (cell : ℕ) → o.request ≡ Some (getting cell) → (number : ℕ) (cells : List CellValue) → o.sight ≡ view number cells → (owed : ℕ) → owed < o.owed → (w : ℕ → Bool) → Tied bound start (step told ∷ h) (with_seat m s (onward o None o.sight o.writes owed) w)
+  tied-told cell asks number cells saw owed fewer w =
       let x = quiet start (step told) h refl refl in
       let part = onward o None o.sight o.writes owed in
       let sees = view_stays start (step told) h t None t.puts o.sight x (number-quiet opened_number (place t) (step told) h refl) (number-quiet made_number (place t) (step told) h refl) (not_opening (getting cell) asks (λ e. let z : ◌≡◌ {A = ℕ} 0 1 = cc in omega arith)) (not_ending (getting cell) asks (λ e. let z : ◌≡◌ {A = ℕ} 0 1 = cc in omega arith)) none-asked seat.sees in
       grown bound start (step told) h m (with_seat m s part w) part tied
-      (quiet-grown bound start (step told) h m (with_seat m s part w) part tied refl refl refl refl (subst (λ u. PartTied bound start (step told ∷ h) s u part) (sym (now_at told)) (own_tied told None t.puts o.writes o.sight owed refl x.last fewer seat.writes sees)) (few-after told refl (omega arith)) (λ u _ is-u. subst (λ (v : Transaction). (n : ℕ) × Fixed start (step told ∷ h) (place v) n) (same-one (sym is ∙ is-u)) (number, (told_number cell asks number cells saw).0)))
+      (quiet-grown bound start (step told) h m (with_seat m s part w) part tied refl refl refl refl (subst (λ u. PartTied bound start (step told ∷ h) s u part) (sym (now_at told)) (own_tied told None t.puts o.writes o.sight owed refl x.last fewer seat.writes sees)) (few-after told refl (omega arith)) (λ u _ is-u. subst (λ (v : Transaction). (n : ℕ) × Fixed start (step told ∷ h) (place v) n) (same-one (sym is ∙ is-u)) (number, (told-number cell asks number cells saw).0)))
       refl within
     where
       same-one : {u : Transaction} → Some t ≡ Some u → t ≡ u
@@ -168,14 +166,14 @@ module _ (bound : ℕ) (start : Start) (h : History) (m : Meaning) (tied : Tied 
   pub told_is_worked : (cell : ℕ) → o.request ≡ Some (getting cell) → (number : ℕ) (cells : List CellValue) → o.sight ≡ view number cells → tells o cells cell ≡ worked_answer start (step told ∷ h) told (current s h)
   told_is_worked cell asks number cells saw =
       let x = quiet start (step told) h refl refl in
-      let fact = told_number cell asks number cells saw in
-      let same-snapshot : snapshot start (step told ∷ h) (base (step told ∷ h) t) ≡ cells = ap (snapshot start (step told ∷ h)) (told_base bound start (step told) h x t number fact.0) ∙ x.snapshots number fact.2 ∙ sym fact.1 in
+      let fact = told-number cell asks number cells saw in
+      let same-snapshot : snapshot start (step told ∷ h) (base (step told ∷ h) t) ≡ cells = ap (snapshot start (step told ∷ h)) (told-base bound start (step told) h x t number fact.0) ∙ x.snapshots number fact.2 ∙ sym fact.1 in
       let own : written cell o.writes ≡ written cell t.puts = ap (written cell) seat.writes ∙ write_set-written cell t.puts in
       (λ i. unwrap_or (own i) (get_or (sym same-snapshot i) cell 0)) ∙ ap (worked_get start (step told ∷ h) t) (sym (seat.requests ∙ asks)) ∙ ap (worked_told start (step told ∷ h)) (sym is)
 
   -- put
-  pub tied_put : (p : Write) → o.request ≡ Some (putting p) → (owed : ℕ) → owed < o.owed → (w : ℕ → Bool) → Tied bound start (step put ∷ h) (with_seat m s (onward o None o.sight (with_put p o.writes) owed) w)
-  tied_put p asks owed fewer w =
+  pub tied-put : (p : Write) → o.request ≡ Some (putting p) → (owed : ℕ) → owed < o.owed → (w : ℕ → Bool) → Tied bound start (step put ∷ h) (with_seat m s (onward o None o.sight (with_put p o.writes) owed) w)
+  tied-put p asks owed fewer w =
       let x = quiet start (step put) h refl refl in
       let part = onward o None o.sight (with_put p o.writes) owed in
       let now-puts : with_asked t.asks t.puts ≡ p ∷ t.puts = ap (λ (r : Option Request). with_asked r t.puts) (seat.requests ∙ asks) in
@@ -189,8 +187,8 @@ module _ (bound : ℕ) (start : Start) (h : History) (m : Meaning) (tied : Tied 
       not_told e = let z : ◌≡◌ {A = ℕ} 0 1 = cc in omega arith
 
   -- ended
-  pub tied_ended : 0 < o.owed → (w : ℕ → Bool) → Tied bound start (step ended ∷ h) (with_seat m s None w)
-  tied_ended some w =
+  pub tied-ended : 0 < o.owed → (w : ℕ → Bool) → Tied bound start (step ended ∷ h) (with_seat m s None w)
+  tied-ended some w =
       grown bound start (step ended) h m (with_seat m s None w) None tied
       (quiet-grown bound start (step ended) h m (with_seat m s None w) None tied refl refl refl refl (subst (λ u. PartTied bound start (step ended ∷ h) s u None) (sym (now_at ended)) tt) (few-after ended refl some) (λ u tells _. absurd (not_told tells)))
       refl within

@@ -1,10 +1,8 @@
 -- What one more event keeps of everything that was before it.
 use Rattle.std.proofs.Common.{◌≡◌, ℕ, ◌+◌, ◌≤◌, false, eqb, ◌⊎◌, List, [], ◌∷◌, ◌++◌, get_or, Some, None, Option, unwrap_or, sym, refl, ap, ◌∙◌, subst, inl, inr, ⊎_elim, arith}
 use Rattle.std.proofs.lemmas.Bool.{cases_eq, cond-false}
-use Rattle.book.specs.declared.heard.Heard.{Heard}
-use Rattle.book.specs.declared.heard.Heard.TheVariants.{Accepted as accepted, Declined as declined, Ended as ended, Made as made, Moved as moved, Opened as opened, Put as put, Told as told, Waited as waited}
 use Rattle.book.specs.Calls.{seat_of}
-use Rattle.book.specs.Histories.{earlier, Event, History, last_made, made_number, newest, opened_number, steps_taken}
+use Rattle.book.specs.Histories.{accepted, declined, earlier, ended, Event, Heard, History, last_made, made, made_number, moved, newest, opened, opened_number, put, steps_taken, told, waited}
 use Rattle.book.specs.Meaning.{ending, getting, made as made-sight, nothing, Open, opening, putting, Request, Sight, view}
 use Rattle.book.specs.Replays.{base, made_as, number_of, opened_as, runs_on, snapshot, Start, worked_answer, worked_by, worked_get}
 use Rattle.book.specs.Transactions.{current, place, Transaction}
@@ -154,5 +152,5 @@ module _ (bound : ℕ) (start : Start) (e : Event) (h : History) (x : Extension 
       (λ i. rest i ++ (this i ∷ []))
 
   -- the number that a transaction of which something was told runs on
-  pub told_base : (t : Transaction) (w : ℕ) → Fixed start (e ∷ h) (place t) w → base (e ∷ h) t ≡ w
-  told_base t w f = base_of (e ∷ h) t w f
+  pub told-base : (t : Transaction) (w : ℕ) → Fixed start (e ∷ h) (place t) w → base (e ∷ h) t ≡ w
+  told-base t w f = base_of (e ∷ h) t w f

@@ -2,9 +2,8 @@
 use Rattle.std.proofs.Common.{◌≡◌, ℕ, zero, suc, ◌+◌, ◌<◌, ◌≤◌, true, false, eqb, ◌⊎◌, List, ◌∷◌, length, get_or, drop, set, Some, None, Option, sym, refl, ap, ◌∙◌, subst, ⊎_elim, arith}
 use Rattle.std.proofs.lemmas.List.{get_or-set_other, get_or-set_same, length-set}
 use Rattle.std.proofs.lemmas.Bool.{cases_Bool, cond-false, eqb-false, eqb-true}
-use Rattle.book.specs.declared.heard.Heard.TheVariants.{Told as told}
 use Rattle.book.specs.Calls.{seat_of}
-use Rattle.book.specs.Histories.{earlier, Event, History, last_made, made_number, newest, opened_number, steps_taken}
+use Rattle.book.specs.Histories.{earlier, Event, History, last_made, made_number, newest, opened_number, steps_taken, told}
 use Rattle.book.specs.Law.{made_count}
 use Rattle.book.specs.Meaning.{Meaning, Open, seat_part}
 use Rattle.book.specs.Replays.{snapshot, Start}

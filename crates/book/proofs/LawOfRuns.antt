@@ -7,11 +7,10 @@ use Rattle.book.specs.declared.answer.Word.{Word}
 use Rattle.book.specs.declared.answer.Word.TheVariants as words
 use Rattle.book.specs.declared.call.Call.{Call}
 use Rattle.book.specs.declared.call.Call.TheVariants as calls
-use Rattle.book.specs.declared.heard.Heard.TheVariants.{Waited as waited}
 use Rattle.book.specs.Calls.{is_busy, seat_of}
 use Rattle.book.specs.Effects as effects
 use Rattle.book.specs.Effects.{Steps}
-use Rattle.book.specs.Histories.{earlier, Event, Happens, heard, heard_step, History, history_after, history_of, made_number, newest, steps_taken}
+use Rattle.book.specs.Histories.{earlier, Event, Happens, heard, heard_step, History, history_after, history_of, made_number, newest, steps_taken, waited}
 use Rattle.book.specs.Law.{AnswersTo, IsBusy, IsOpen, LawOfRuns, made_count, NumbersAreRight, one_if_made, SomethingMoves, start_of, told_value}
 use Rattle.book.specs.Meaning.{Meaning, Open, seat_part}
 use Rattle.book.specs.Replays.{made_as, snapshot_after, Start, worked_by}

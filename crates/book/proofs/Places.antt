@@ -3,10 +3,8 @@ use Rattle.std.proofs.Common.{◌≡◌, ℕ, suc, ◌<◌, ◌≤◌, Bool, tru
 use Rattle.std.proofs.lemmas.Bool.{cases_Bool, cond_both, cond-false, cond-true, eq-eqb, eqb-true, false≢true, ne_eqb}
 use Rattle.book.specs.declared.call.Call.{Call}
 use Rattle.book.specs.declared.call.Call.TheVariants as calls
-use Rattle.book.specs.declared.heard.Heard.{Heard}
-use Rattle.book.specs.declared.heard.Heard.TheVariants.{Accepted as accepted, Declined as declined, Ended as ended, Made as made, Moved as moved, Opened as opened, Put as put, Told as told, Waited as waited}
 use Rattle.book.specs.Calls.{seat_of}
-use Rattle.book.specs.Histories.{Event, History}
+use Rattle.book.specs.Histories.{accepted, declined, ended, Event, Heard, History, made, moved, opened, put, told, waited}
 use Rattle.book.specs.Meaning.{Request}
 use Rattle.book.specs.Replays.{first_given, is_place, number_of}
 use Rattle.book.specs.Transactions.{asking, current, going_on, place, putting_done, requesting, Transaction}

@@ -3,21 +3,20 @@ use Rattle.std.proofs.Common.{◌≡◌, ℕ, ◌+◌, ◌<◌, ◌≤◌, Bool,
 use Rattle.std.proofs.lemmas.Bool.{cond-true, eq-eqb, false≢true, leb-false, true≢false}
 use Rattle.book.specs.declared.call.Call.{Call}
 use Rattle.book.specs.declared.call.Call.TheVariants as calls
-use Rattle.book.specs.declared.heard.Heard.TheVariants.{Accepted as accepted, Declined as declined, Told as told, Waited as waited}
 use Rattle.book.specs.declared.refusal.Refusal.{Refusal}
 use Rattle.book.specs.Calls.{end_refusal, get_refusal, if_then, is_busy, is_request, put_refusal, refusal_of, seat_of, seat_refusal}
 use Rattle.book.specs.Effects.{Accepts, asked}
-use Rattle.book.specs.Histories.{counted, Event, History, last_made, made_number, opened_number, steps_taken}
+use Rattle.book.specs.Histories.{accepted, counted, declined, Event, History, last_made, made_number, opened_number, steps_taken, told, waited}
 use Rattle.book.specs.Meaning.{ending, getting, Meaning, nothing, Open, opening, putting, Request, seat_part}
 use Rattle.book.specs.Replays.{Start}
 use Rattle.book.specs.Sizes.{seat_count}
 use Rattle.book.specs.Transactions.{asking, current, going_on, place, Transaction}
-use Rattle.book.specs.Writes.{write_set}
 use Rattle.book.proofs.Acts.{open_seat, quiet-grown, view_stays}
 use Rattle.book.proofs.Extensions.{quiet, sees_stays}
 use Rattle.book.proofs.Growing.{grown, grown-by}
 use Rattle.book.proofs.Places.{current-same, number-fresh, number-quiet}
 use Rattle.book.proofs.Tied.{PartTied, Sees, SeatTied, Tied}
+use Rattle.book.proofs.WriteSets.{write_set}
 
 -- a table's line that meets nothing
 none_above : (b : Bool) (r : Refusal) (x : Option Refusal) → if_then b r x ≡ None → (b ≡ false) × (x ≡ None)
@@ -65,8 +64,8 @@ module _ (bound : ℕ) (start : Start) (h : History) (m : Meaning) (tied : Tied 
 pub tied-declined : (bound : ℕ) (start : Start) (h : History) (m : Meaning) → Tied bound start h m → (call : Call) → Tied bound start (record { call = call; hears = declined } ∷ h) m
 tied-declined bound start h m tied call = tied_still bound start h m tied (record { call = call; hears = declined }) refl refl (λ e. let z : ◌≡◌ {A = ℕ} 0 1 = cc in omega arith) (λ _. refl) (λ _. refl)
 
-pub tied_waited : (bound : ℕ) (start : Start) (h : History) (m : Meaning) → Tied bound start h m → (s : ℕ) → Tied bound start (record { call = calls.Step s; hears = waited } ∷ h) m
-tied_waited bound start h m tied s = tied_still bound start h m tied (record { call = calls.Step s; hears = waited }) refl refl (λ e. let z : ◌≡◌ {A = ℕ} 0 1 = cc in omega arith) (λ _. refl) (λ _. refl)
+pub tied-waited : (bound : ℕ) (start : Start) (h : History) (m : Meaning) → Tied bound start h m → (s : ℕ) → Tied bound start (record { call = calls.Step s; hears = waited } ∷ h) m
+tied-waited bound start h m tied s = tied_still bound start h m tied (record { call = calls.Step s; hears = waited }) refl refl (λ e. let z : ◌≡◌ {A = ℕ} 0 1 = cc in omega arith) (λ _. refl) (λ _. refl)
 
 -- a free seat has no transaction, and an open one has its own
 free_seat : (bound : ℕ) (start : Start) (h : History) (s : ℕ) (u : Option Transaction) → PartTied bound start h s u None → u ≡ None
@@ -83,8 +82,8 @@ module _ (bound : ℕ) (start : Start) (h : History) (m : Meaning) (tied : Tied 
   none-taken : steps_taken (seat_of call) (asks_event ∷ h) ≡ 0
   none-taken = cond-true (eqb (seat_of call) (seat_of call)) 0 (steps_taken (seat_of call) h) (eq-eqb (seat_of call) (seat_of call) refl)
 
-  accepted_tied : (m' : Meaning) (part : Option Open) → m'.number ≡ m.number → m'.cells ≡ m.cells → m'.seats ≡ set m.seats (seat_of call) part → PartTied bound start (asks_event ∷ h) (seat_of call) (going_on call accepted h (current (seat_of call) h)) part → Tied bound start (asks_event ∷ h) m'
-  accepted_tied m' part number cells seats own =
+  accepted-tied : (m' : Meaning) (part : Option Open) → m'.number ≡ m.number → m'.cells ≡ m.cells → m'.seats ≡ set m.seats (seat_of call) part → PartTied bound start (asks_event ∷ h) (seat_of call) (going_on call accepted h (current (seat_of call) h)) part → Tied bound start (asks_event ∷ h) m'
+  accepted-tied m' part number cells seats own =
       grown bound start asks_event h m m' part tied
       (quiet-grown bound start asks_event h m m' part tied refl refl number cells (subst (λ u. PartTied bound start (asks_event ∷ h) (seat_of call) u part) (sym here_now) own) (omega (arith, none-taken)) (λ u tells _. absurd (not_told tells)))
       seats within
@@ -143,9 +142,9 @@ idle_get : (m : Meaning) (cell : ℕ) (part : Option Open) → get_refusal m cel
 idle_get m cell None e = absurd (some_is_no_none _ e)
 idle_get m cell (Some o) e = (o, refl, (none_above (is_busy o) _ _ e).0)
 
-idle_put : (m : Meaning) (cell : ℕ) (part : Option Open) → put_refusal m cell part ≡ None → Idle part
-idle_put m cell None e = absurd (some_is_no_none _ e)
-idle_put m cell (Some o) e = (o, refl, (none_above (is_busy o) _ _ e).0)
+idle-put : (m : Meaning) (cell : ℕ) (part : Option Open) → put_refusal m cell part ≡ None → Idle part
+idle-put m cell None e = absurd (some_is_no_none _ e)
+idle-put m cell (Some o) e = (o, refl, (none_above (is_busy o) _ _ e).0)
 
 idle_end : (part : Option Open) → end_refusal part ≡ None → Idle part
 idle_end None e = absurd (some_is_no_none _ e)
@@ -154,23 +153,23 @@ idle_end (Some o) e = (o, refl, (none_above (is_busy o) _ _ e).0)
 seat_none : (m : Meaning) (call : Call) → refusal_of m call ≡ None → seat_refusal m call ≡ None
 seat_none m call e = (none_above (leb seat_count (seat_of call)) _ (seat_refusal m call) e).1
 
-pub tied_accepted : (bound : ℕ) (start : Start) (h : History) (m : Meaning) → Tied bound start h m → (call : Call) (m' : Meaning) → is_request call ≡ true → refusal_of m call ≡ None → Accepts bound m call m' → Tied bound start (record { call = call; hears = accepted } ∷ h) m'
-tied_accepted bound start h m tied (calls.Open kind seat) m' asks none a =
-    accepted_tied bound start h m tied (calls.Open kind seat) (seat_within m (calls.Open kind seat) none) m' _ (ap (λ (x : Meaning). x.number) a.effect) (ap (λ (x : Meaning). x.cells) a.effect) (ap (λ (x : Meaning). x.seats) a.effect)
+pub tied-accepted : (bound : ℕ) (start : Start) (h : History) (m : Meaning) → Tied bound start h m → (call : Call) (m' : Meaning) → is_request call ≡ true → refusal_of m call ≡ None → Accepts bound m call m' → Tied bound start (record { call = call; hears = accepted } ∷ h) m'
+tied-accepted bound start h m tied (calls.Open kind seat) m' asks none a =
+    accepted-tied bound start h m tied (calls.Open kind seat) (seat_within m (calls.Open kind seat) none) m' _ (ap (λ (x : Meaning). x.number) a.effect) (ap (λ (x : Meaning). x.cells) a.effect) (ap (λ (x : Meaning). x.seats) a.effect)
     (fresh-tied bound start h m tied (calls.Open kind seat) (seat_within m (calls.Open kind seat) none) _ _ refl refl refl refl refl refl refl a.within)
-tied_accepted bound start h m tied (calls.Get seat cell) m' asks none a =
+tied-accepted bound start h m tied (calls.Get seat cell) m' asks none a =
     let call = calls.Get seat cell in
     let idle = idle_get m cell (seat_part m seat) (seat_none m call none) in
-    accepted_tied bound start h m tied call (seat_within m call none) m' _ (ap (λ (x : Meaning). x.number) a.effect) (ap (λ (x : Meaning). x.cells) a.effect) (ap (λ (x : Meaning). x.seats) a.effect)
+    accepted-tied bound start h m tied call (seat_within m call none) m' _ (ap (λ (x : Meaning). x.number) a.effect) (ap (λ (x : Meaning). x.cells) a.effect) (ap (λ (x : Meaning). x.seats) a.effect)
     (open_tied bound start h m tied call (seat_within m call none) idle.0 (getting cell) a.owed idle.1 idle.2 (λ e. let z : ◌≡◌ {A = ℕ} 0 1 = cc in omega arith) a.within)
-tied_accepted bound start h m tied (calls.Put seat cell value) m' asks none a =
+tied-accepted bound start h m tied (calls.Put seat cell value) m' asks none a =
     let call = calls.Put seat cell value in
-    let idle = idle_put m cell (seat_part m seat) (seat_none m call none) in
-    accepted_tied bound start h m tied call (seat_within m call none) m' _ (ap (λ (x : Meaning). x.number) a.effect) (ap (λ (x : Meaning). x.cells) a.effect) (ap (λ (x : Meaning). x.seats) a.effect)
+    let idle = idle-put m cell (seat_part m seat) (seat_none m call none) in
+    accepted-tied bound start h m tied call (seat_within m call none) m' _ (ap (λ (x : Meaning). x.number) a.effect) (ap (λ (x : Meaning). x.cells) a.effect) (ap (λ (x : Meaning). x.seats) a.effect)
     (open_tied bound start h m tied call (seat_within m call none) idle.0 (putting (record { cell = cell; value = value })) a.owed idle.1 idle.2 (λ e. let z : ◌≡◌ {A = ℕ} 0 1 = cc in omega arith) a.within)
-tied_accepted bound start h m tied (calls.End seat) m' asks none a =
+tied-accepted bound start h m tied (calls.End seat) m' asks none a =
     let call = calls.End seat in
     let idle = idle_end (seat_part m seat) (seat_none m call none) in
-    accepted_tied bound start h m tied call (seat_within m call none) m' _ (ap (λ (x : Meaning). x.number) a.effect) (ap (λ (x : Meaning). x.cells) a.effect) (ap (λ (x : Meaning). x.seats) a.effect)
+    accepted-tied bound start h m tied call (seat_within m call none) m' _ (ap (λ (x : Meaning). x.number) a.effect) (ap (λ (x : Meaning). x.cells) a.effect) (ap (λ (x : Meaning). x.seats) a.effect)
     (open_tied bound start h m tied call (seat_within m call none) idle.0 ending a.owed idle.1 idle.2 (λ e. let z : ◌≡◌ {A = ℕ} 0 1 = cc in omega arith) a.within)
-tied_accepted bound start h m tied (calls.Step seat) m' asks none a = absurd (false≢true asks)
+tied-accepted bound start h m tied (calls.Step seat) m' asks none a = absurd (false≢true asks)

@@ -1,10 +1,9 @@
 -- A run grows by one call, and its answers by one place.
-use Rattle.std.proofs.Common.{◌≡◌, ℕ, ◌+◌, ◌<◌, ◌≤◌, true, not, ltb, List, [], ◌∷◌, ◌++◌, length, get_or, take, drop, set, Some, None, sym, ap, ◌∙◌, subst, inl, inr, arith}
+use Rattle.std.proofs.Common.{◌≡◌, ℕ, ◌+◌, ◌<◌, ◌≤◌, true, not, ltb, List, [], ◌∷◌, ◌++◌, length, get_or, take, drop, set, None, sym, ap, ◌∙◌, subst, arith}
 use Rattle.std.proofs.lemmas.List.{drop-drop, drop-set-lt, take_all, take_more, take_more_set}
-use Rattle.std.proofs.lemmas.Bool.{cases_Bool, cond-false, cond-true, ltb-false}
+use Rattle.std.proofs.lemmas.Bool.{cond-false, le-ltb}
 use Rattle.book.specs.declared.answer.Answer.{Answer}
 use Rattle.book.specs.declared.call.Call.{Call}
-use Rattle.book.specs.declared.refusal.Refusal.{Refusal}
 use Rattle.book.specs.Engines.{none_open, run_refusal}
 use Rattle.book.specs.Meaning.{Meaning}
 use Rattle.book.specs.Progress.{SomeBusyMoves}
@@ -22,20 +21,10 @@ run_more bound m0 m m' cs as' i d a in-cs in-as run does =
 pub rest_more : (as' first : List Answer) (i : ℕ) (a : Answer) → drop i as' ≡ drop i first → drop (i + 1) (set as' i a) ≡ drop (i + 1) first
 rest_more as' first i a same = drop-set-lt (i + 1) as' i a (omega arith) ∙ sym (drop-drop 1 i as') ∙ ap (drop 1) same ∙ drop-drop 1 i first
 
--- a list of calls that can be run has room for its answers and finds all seats free
-pub run_may : (calls room : ℕ) (m : Meaning) → run_refusal calls room m ≡ None → (calls ≤ room) × (none_open m.seats ≡ true)
-run_may calls room m may =
-    elim (cases_Bool (ltb room calls)) [
-      | inl short ↦ absurd (some_refusal (sym (cond-true (ltb room calls) _ _ short) ∙ may))
-      | inr enough ↦
-          elim (cases_Bool (none_open m.seats)) [
-            | inl free ↦ (ltb-false room calls enough, free)
-            | inr used ↦ absurd (some_refusal (sym (cond-true (not (none_open m.seats)) _ _ (ap not used)) ∙ sym (cond-false (ltb room calls) _ _ enough) ∙ may))
-          ]
-    ]
-  where
-    some_refusal : {r : Refusal} → Some r ≡ None → ⊥
-    some_refusal e = let z : ◌≡◌ {A = ℕ} 0 1 = cc in omega arith
+-- no line of the table of runs holds
+pub run-accepted : (calls answers : ℕ) (m : Meaning) → calls ≤ answers → none_open m.seats ≡ true → run_refusal calls answers m ≡ None
+run-accepted calls answers m room free =
+    cond-false (ltb answers calls) _ _ (le-ltb answers calls room) ∙ cond-false (not (none_open m.seats)) _ _ (ap not free)
 
 pub ran : (bound : ℕ) (m m' : Meaning) (cs : List Call) (before after : List Answer) (i : ℕ) → length cs ≤ i → i ≤ length cs → length m.seats ≡ seat_count → none_open m.seats ≡ true → SomeBusyMoves m' → Run bound m (take i cs) (take i after) m' → drop i after ≡ drop i before → Ran bound m cs before after m'
 ran bound m m' cs before after i all within size free moves run rest =

@@ -1,14 +1,14 @@
 -- The relation between what a book means and the history that led there. Everything in the law is read off it.
 use Rattle.std.proofs.Common.{◌≡◌, ℕ, ◌+◌, ◌≤◌, ◌⊎◌, List, length, drop, Some, None, Option}
-use Rattle.book.specs.declared.heard.Heard.TheVariants.{Told as told}
 use Rattle.book.specs.Calls.{seat_of}
-use Rattle.book.specs.Histories.{Event, Happens, History, last_made, made_number, opened_number, steps_taken}
+use Rattle.book.specs.Histories.{Event, Happens, History, last_made, made_number, opened_number, steps_taken, told}
 use Rattle.book.specs.Law.{made_count}
 use Rattle.book.specs.Meaning.{ending, made, Meaning, nothing, Open, opening, seat_part, Sight, view}
 use Rattle.book.specs.Replays.{made_as, opened_as, snapshot, Start}
 use Rattle.book.specs.Sizes.{seat_count}
 use Rattle.book.specs.Transactions.{current, place, Transaction}
-use Rattle.book.specs.Writes.{CellValue, write_set}
+use Rattle.book.specs.Writes.{CellValue}
+use Rattle.book.proofs.WriteSets.{write_set}
 
 -- a transaction that has a view v: still opening, or opened on v
 abbrev pub Opens : History → Transaction → ℕ → Type 0

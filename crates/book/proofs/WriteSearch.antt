@@ -45,9 +45,9 @@ written_other c p (w ∷ ws) off =
     ]
 
 -- a write set stays one
-pub distinct_put : (p : Write) (ws : List Write) → distinct ws ≡ true → distinct (with_put p ws) ≡ true
-distinct_put p [] apart = refl
-distinct_put p (w ∷ ws) apart =
+pub distinct-put : (p : Write) (ws : List Write) → distinct ws ≡ true → distinct (with_put p ws) ≡ true
+distinct-put p [] apart = refl
+distinct-put p (w ∷ ws) apart =
     let parts = and_parts (not (is_some (written w.cell ws))) (distinct ws) apart in
     elim (cases_Bool (eqb w.cell p.cell)) [
       | inl same ↦
@@ -55,7 +55,7 @@ distinct_put p (w ∷ ws) apart =
           ap distinct (cond-true (eqb w.cell p.cell) (p ∷ ws) (w ∷ with_put p ws) same) ∙ and_from _ _ (ap (λ (x : ℕ). not (is_some (written x ws))) (sym is) ∙ parts.0) parts.1
       | inr other ↦
           let off : eqb p.cell w.cell ≡ false = ne_eqb p.cell w.cell (λ e. eqb-false w.cell p.cell other (sym e)) in
-          ap distinct (cond-false (eqb w.cell p.cell) (p ∷ ws) (w ∷ with_put p ws) other) ∙ and_from _ _ (ap (λ x. not (is_some x)) (written_other w.cell p ws off) ∙ parts.0) (distinct_put p ws parts.1)
+          ap distinct (cond-false (eqb w.cell p.cell) (p ∷ ws) (w ∷ with_put p ws) other) ∙ and_from _ _ (ap (λ x. not (is_some x)) (written_other w.cell p ws off) ∙ parts.0) (distinct-put p ws parts.1)
     ]
 
 -- a cell that was not put comes last

@@ -2,32 +2,37 @@
 use Rattle.std.proofs.Common.{◌≡◌, ℕ, true, false, cond, eqb, ◌⊎◌, List, [], ◌∷◌, set, Some, sym, refl, ap, ◌∙◌, inl, inr, ⊎_elim}
 use Rattle.std.proofs.lemmas.List.{set_comm, set-set}
 use Rattle.std.proofs.lemmas.Bool.{cases_Bool, cond-false, cond-true, eqb-false, eqb-true, ne_eqb}
-use Rattle.book.specs.Writes.{applied, CellValue, with_put, Write, write_set, written}
+use Rattle.book.specs.Writes.{applied, CellValue, with_put, Write, written}
 
-applied_put : (p : Write) (ws : List Write) (cells : List CellValue) → applied (with_put p ws) cells ≡ set (applied ws cells) p.cell p.value
-applied_put p [] cells = refl
-applied_put p (w ∷ ws) cells =
+-- the write set of puts, given newest first
+abbrev pub write_set : List Write → List Write
+write_set [] = []
+write_set (p ∷ ps) = with_put p (write_set ps)
+
+applied-put : (p : Write) (ws : List Write) (cells : List CellValue) → applied (with_put p ws) cells ≡ set (applied ws cells) p.cell p.value
+applied-put p [] cells = refl
+applied-put p (w ∷ ws) cells =
     ⊎_elim
     (λ same.
     let e = eqb-true w.cell p.cell same in
     ap (λ (l : List Write). applied l cells) (cond-true (eqb w.cell p.cell) (p ∷ ws) (w ∷ with_put p ws) same) ∙ sym (set-set (applied ws cells) p.cell w.value p.value) ∙ ap (λ (c : ℕ). set (set (applied ws cells) c w.value) p.cell p.value) (sym e))
     (λ other.
-    ap (λ (l : List Write). applied l cells) (cond-false (eqb w.cell p.cell) (p ∷ ws) (w ∷ with_put p ws) other) ∙ ap (λ (l : List CellValue). set l w.cell w.value) (applied_put p ws cells) ∙ set_comm (applied ws cells) p.cell w.cell p.value w.value (λ e. eqb-false _ _ other (sym e)))
+    ap (λ (l : List Write). applied l cells) (cond-false (eqb w.cell p.cell) (p ∷ ws) (w ∷ with_put p ws) other) ∙ ap (λ (l : List CellValue). set l w.cell w.value) (applied-put p ws cells) ∙ set_comm (applied ws cells) p.cell w.cell p.value w.value (λ e. eqb-false _ _ other (sym e)))
     (cases_Bool (eqb w.cell p.cell))
 
 pub write_set-applied : (ps : List Write) (cells : List CellValue) → applied (write_set ps) cells ≡ applied ps cells
 write_set-applied [] cells = refl
-write_set-applied (p ∷ ps) cells = applied_put p (write_set ps) cells ∙ ap (λ (l : List CellValue). set l p.cell p.value) (write_set-applied ps cells)
+write_set-applied (p ∷ ps) cells = applied-put p (write_set ps) cells ∙ ap (λ (l : List CellValue). set l p.cell p.value) (write_set-applied ps cells)
 
 -- looking up a cell after a put
-written_put : (c : ℕ) (p : Write) (ws : List Write) → written c (with_put p ws) ≡ cond (eqb p.cell c) (Some p.value) (written c ws)
-written_put c p [] = refl
-written_put c p (w ∷ ws) =
+written-put : (c : ℕ) (p : Write) (ws : List Write) → written c (with_put p ws) ≡ cond (eqb p.cell c) (Some p.value) (written c ws)
+written-put c p [] = refl
+written-put c p (w ∷ ws) =
     ⊎_elim
     (λ same.
     ap (λ (l : List Write). written c l) (cond-true (eqb w.cell p.cell) (p ∷ ws) (w ∷ with_put p ws) same) ∙ skip (eqb-true w.cell p.cell same) (cases_Bool (eqb p.cell c)))
     (λ other.
-    ap (λ (l : List Write). written c l) (cond-false (eqb w.cell p.cell) (p ∷ ws) (w ∷ with_put p ws) other) ∙ ap (λ x. cond (eqb w.cell c) (Some w.value) x) (written_put c p ws) ∙ swap (λ e. eqb-false _ _ other e) (cases_Bool (eqb p.cell c)))
+    ap (λ (l : List Write). written c l) (cond-false (eqb w.cell p.cell) (p ∷ ws) (w ∷ with_put p ws) other) ∙ ap (λ x. cond (eqb w.cell c) (Some w.value) x) (written-put c p ws) ∙ swap (λ e. eqb-false _ _ other e) (cases_Bool (eqb p.cell c)))
     (cases_Bool (eqb w.cell p.cell))
   where
     skip : w.cell ≡ p.cell → (eqb p.cell c ≡ true) ⊎ (eqb p.cell c ≡ false) → cond (eqb p.cell c) (Some p.value) (written c ws) ≡ cond (eqb p.cell c) (Some p.value) (written c (w ∷ ws))
@@ -42,4 +47,4 @@ written_put c p (w ∷ ws) =
 
 pub write_set-written : (c : ℕ) (ps : List Write) → written c (write_set ps) ≡ written c ps
 write_set-written c [] = refl
-write_set-written c (p ∷ ps) = written_put c p (write_set ps) ∙ ap (λ x. cond (eqb p.cell c) (Some p.value) x) (write_set-written c ps)
+write_set-written c (p ∷ ps) = written-put c p (write_set ps) ∙ ap (λ x. cond (eqb p.cell c) (Some p.value) x) (write_set-written c ps)

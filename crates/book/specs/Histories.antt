@@ -3,13 +3,22 @@
 use Rattle.std.specs.Prelude.{ℕ, ◌+◌, cond, List, [], ◌∷◌, Some, None, Option, ◌==◌}
 use Rattle.std.specs.Option.{unwrap_or}
 use Rattle.book.specs.declared.answer.Answer.{Answer}
-use Rattle.book.specs.declared.answer.Answer.TheVariants as answers
+use Rattle.book.specs.declared.answer.Answer.TheVariants.{Accepted, Declined, Stepped}
 use Rattle.book.specs.declared.answer.Word.{Word}
 use Rattle.book.specs.declared.answer.Word.TheVariants as words
 use Rattle.book.specs.declared.call.Call.{Call}
-use Rattle.book.specs.declared.heard.Heard.{Heard}
-use Rattle.book.specs.declared.heard.Heard.TheVariants.{Accepted as accepted, Declined as declined, Ended as ended, Made as made, Moved as moved, Opened as opened, Put as put, Told as told, Waited as waited}
 use Rattle.book.specs.Calls.{seat_of}
+
+pub data Heard : Type 0 where
+  accepted : Heard
+  declined : Heard
+  waited : Heard
+  moved : Heard
+  opened : (number : ℕ) → Heard
+  told : Heard
+  put : Heard
+  made : (number : ℕ) → Heard
+  ended : Heard
 
 abbrev pub heard_step : Word → ℕ → Heard
 heard_step words.Wait n = waited
@@ -21,9 +30,9 @@ heard_step words.Made n = made n
 heard_step words.Ended n = ended
 
 abbrev pub heard : Answer → Heard
-heard answers.Accepted = accepted
-heard (answers.Stepped word n) = heard_step word n
-heard (answers.Declined refusal) = declined
+heard Accepted = accepted
+heard (Stepped word n) = heard_step word n
+heard (Declined refusal) = declined
 
 pub record Event : Type 0 where
   pub call : Call

@@ -6,9 +6,8 @@ use Rattle.book.specs.declared.answer.Word.{Word}
 use Rattle.book.specs.declared.answer.Word.TheVariants as words
 use Rattle.book.specs.declared.call.Call.{Call}
 use Rattle.book.specs.declared.call.Call.TheVariants.{Step}
-use Rattle.book.specs.declared.heard.Heard.TheVariants.{Waited as waited}
 use Rattle.book.specs.Calls.{seat_of}
-use Rattle.book.specs.Histories.{Event, Happens, heard, History, history_of, last_made, made_number, opened_number, steps_taken}
+use Rattle.book.specs.Histories.{Event, Happens, heard, History, history_of, last_made, made_number, opened_number, steps_taken, waited}
 use Rattle.book.specs.Meaning.{Meaning}
 use Rattle.book.specs.Replays.{Account, opened_as, replay, Start}
 use Rattle.book.specs.Runs.{Does}

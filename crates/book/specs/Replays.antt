@@ -1,10 +1,8 @@
 -- The serial replay: each transaction alone, on the snapshot that its numbers name. It hears no value that was told.
 use Rattle.std.specs.Prelude.{ℕ, zero, suc, ◌+◌, ◌-◌, Bool, false, cond, List, [], ◌∷◌, ◌++◌, Some, None, Option, ◌==◌, slice_index}
 use Rattle.std.specs.Option.{unwrap_or}
-use Rattle.book.specs.declared.heard.Heard.{Heard}
-use Rattle.book.specs.declared.heard.Heard.TheVariants.{Accepted as accepted, Declined as declined, Ended as ended, Made as made, Moved as moved, Opened as opened, Put as put, Told as told, Waited as waited}
 use Rattle.book.specs.Calls.{seat_of}
-use Rattle.book.specs.Histories.{History, last_made, made_number, opened_number}
+use Rattle.book.specs.Histories.{accepted, declined, ended, Heard, History, last_made, made, made_number, moved, opened, opened_number, put, told, waited}
 use Rattle.book.specs.Meaning.{ending, getting, opening, putting, Request}
 use Rattle.book.specs.Transactions.{current, place, Transaction}
 use Rattle.book.specs.Writes.{applied, CellValue, Write, written}

@@ -3,10 +3,8 @@ use Rattle.std.specs.Prelude.{ℕ, cond, List, [], ◌∷◌, length, Some, None
 use Rattle.book.specs.declared.call.Call.{Call}
 use Rattle.book.specs.declared.call.Call.TheVariants as calls
 use Rattle.book.specs.declared.call.Kind.{Kind}
-use Rattle.book.specs.declared.heard.Heard.{Heard}
-use Rattle.book.specs.declared.heard.Heard.TheVariants.{Accepted as accepted, Declined as declined, Ended as ended, Made as made, Moved as moved, Opened as opened, Put as put, Told as told, Waited as waited}
 use Rattle.book.specs.Calls.{seat_of}
-use Rattle.book.specs.Histories.{History}
+use Rattle.book.specs.Histories.{accepted, declined, ended, Heard, History, made, moved, opened, put, told, waited}
 use Rattle.book.specs.Meaning.{ending, getting, opening, putting, Request}
 use Rattle.book.specs.Writes.{Write}
 

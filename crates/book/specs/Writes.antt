@@ -20,11 +20,6 @@ abbrev pub with_put : Write → List Write → List Write
 with_put p [] = p ∷ []
 with_put p (w ∷ ws) = cond (w.cell == p.cell) (p ∷ ws) (w ∷ with_put p ws)
 
--- the write set that puts come to, the newest first
-abbrev pub write_set : List Write → List Write
-write_set [] = []
-write_set (p ∷ ps) = with_put p (write_set ps)
-
 -- the cells after these writes, the last of the list first
 abbrev pub applied : List Write → List CellValue → List CellValue
 applied [] cells = cells

@@ -1,8 +1,4 @@
 // What a book answers.
-ghost use Rattle.std.specs.Prelude.{◌≡◌};
-ghost use Rattle.book.specs.Histories.{heard, heard_step};
-
-use crate::heard::Heard;
 use crate::refusal::Refusal;
 
 // The word of a step's answer. It comes with a number: the view's at `Opened`, a value at `Told`, the new number of the
@@ -29,33 +25,6 @@ pub enum Answer {
     Accepted,
     Stepped(Word, u32),
     Declined(Refusal),
-}
-
-fn heard_of_step(word: Word, number: u32) -> Heard
-    ensures { result ≡ heard_step word number }
-{
-    match word {
-        Word::Wait => Heard::Waited,
-        Word::Moved => Heard::Moved,
-        Word::Opened => Heard::Opened { number },
-        Word::Told => Heard::Told,
-        Word::Put => Heard::Put,
-        Word::Made => Heard::Made { number },
-        Word::Ended => Heard::Ended,
-    }
-}
-
-impl Answer {
-    // What a replay may hear of the answer: all but a told value.
-    pub fn heard(&self) -> Heard
-        ensures { result ≡ heard self.now }
-    {
-        match self {
-            Answer::Accepted => Heard::Accepted,
-            Answer::Stepped(word, number) => heard_of_step(*word, *number),
-            Answer::Declined(_) => Heard::Declined,
-        }
-    }
 }
 
 // What a seat is doing.

@@ -1,10 +1,10 @@
 // What every engine of a book can do, and what it promises of it by the meaning of its state.
-ghost use Rattle.std.specs.Prelude.{◌≡◌, ℕ, ◌≤◌, length};
+ghost use Rattle.std.specs.Prelude.{◌≡◌, ℕ, length};
 ghost use Rattle.book.specs.declared.call.Call.TheVariants.{End, Get, Open, Put};
 ghost use Rattle.book.specs.Engines.{Answers, Asks, Starts, latest_cell, seat_kind, seat_standing};
 ghost use Rattle.book.specs.Meaning.{Meaning};
 ghost use Rattle.book.specs.Progress.{SomeBusyMoves};
-ghost use Rattle.book.specs.Sizes.{max_cells, seat_count};
+ghost use Rattle.book.specs.Sizes.{seat_count};
 
 use crate::answer::{Standing, Word};
 use crate::call::{Kind, Value};
@@ -69,6 +69,4 @@ pub trait Engine: Sized {
     ghost progress: { (e : Self) → SomeBusyMoves (meaning e) };
 
     ghost sized: { (e : Self) → length (meaning e).seats ≡ seat_count };
-
-    ghost few: { (e : Self) → length (meaning e).cells ≤ max_cells };
 }

@@ -56,26 +56,16 @@ fn all_free<E: Engine>(engine: &E) -> bool
     true
 }
 
-// Why a list of so many calls cannot be run with room for so many answers; none where it can.
-pub fn run_refusal<E: Engine>(engine: &E, calls: usize, room: usize) -> Option<Refusal>
-    ensures { result ≡ run_refusal calls room (meaning engine.now) }
-{
-    if room < calls {
-        return Some(Refusal::ListTooShort);
-    }
-    if !all_free(engine) {
-        return Some(Refusal::SeatInUse);
-    }
-    None
-}
-
 // Makes the calls one after the other and writes each answer into its place. Declined, with nothing touched, where there
 // is no room for the answers or a seat is not free.
 pub fn run<E: Engine>(engine: &mut E, calls: &[Call], answers: &mut [Answer]) -> Result<(), Refusal>
     ensures { MatchResult result (λ _. (run_refusal (length calls.now) (length answers.old) (meaning engine.old) ≡ None) × Ran bound (meaning engine.old) calls.now answers.old answers.new (meaning engine.new)) (λ refusal. (run_refusal (length calls.now) (length answers.old) (meaning engine.old) ≡ Some refusal) × (engine.new ≡ engine.old) × (answers.new ≡ answers.old)) }
 {
-    if let Some(refusal) = run_refusal(engine, calls.len(), answers.len()) {
-        return Err(refusal);
+    if answers.len() < calls.len() {
+        return Err(Refusal::ListTooShort);
+    }
+    if !all_free(engine) {
+        return Err(Refusal::SeatInUse);
     }
     for (i, call) in calls.iter().enumerate() {
         answers[i] = call_on(engine, *call);

@@ -1,4 +1,6 @@
 // Reads a sheet on standard input and prints what became of it.
+#![tactic(auto)]
+
 use std::io::Read;
 
 fn run(rt: &HostRuntime) -> anyhow::Result<()> {

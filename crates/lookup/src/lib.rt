@@ -1,4 +1,6 @@
 // One search for every kind of entry: the last entry of a slice that suits a question.
+#![tactic(auto)]
+
 ghost use Rattle.std.specs.Prelude.{◌≡◌, Bool};
 ghost use Rattle.lookup.specs.Last.{IsLast, last_match};
 

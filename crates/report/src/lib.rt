@@ -1,4 +1,6 @@
 // What the program says of a sheet: one function from the bytes of the sheet to the text of the answer.
+#![tactic(auto)]
+
 mod answer;
 mod summary;
 

@@ -227,14 +227,14 @@ get_idle m seat cell e =
     idle_get None q = q
     idle_get (Some o) q = cond-false (is_busy o) _ None (none_above (is_busy o) _ _ q).0
 
-pub put_idle : (m : Meaning) (seat cell value : ℕ) → refusal_of m (calls.Put seat cell value) ≡ None → refusal_of m (calls.End seat) ≡ None
-put_idle m seat cell value e =
+pub put-idle : (m : Meaning) (seat cell value : ℕ) → refusal_of m (calls.Put seat cell value) ≡ None → refusal_of m (calls.End seat) ≡ None
+put-idle m seat cell value e =
     let place = none_above (nat_le seat_count seat) _ (seat_refusal m (calls.Put seat cell value)) e in
-    cond-false (nat_le seat_count seat) _ _ place.0 ∙ idle_put (seat_part m seat) place.1
+    cond-false (nat_le seat_count seat) _ _ place.0 ∙ idle-put (seat_part m seat) place.1
   where
-    idle_put : (part : Option Open) → put_refusal m cell part ≡ None → end_refusal part ≡ None
-    idle_put None q = q
-    idle_put (Some o) q = cond-false (is_busy o) _ None (none_above (is_busy o) _ _ q).0
+    idle-put : (part : Option Open) → put_refusal m cell part ≡ None → end_refusal part ≡ None
+    idle-put None q = q
+    idle-put (Some o) q = cond-false (is_busy o) _ None (none_above (is_busy o) _ _ q).0
 
 room_left : (found full : Bool) → (not found && full) ≡ false → (found || not full) ≡ true
 room_left true full e = refl
@@ -245,8 +245,8 @@ not_leb : (m n : ℕ) → not (nat_le m n) ≡ nat_lt n m
 not_leb m n = grind (arith, nat_tests)
 
 -- a put that is accepted finds room
-pub put_fits : (st : State) → Sound st → (seat cell value : ℕ) → refusal_of (meaning_of st) (calls.Put seat cell value) ≡ None → (t : Turn) → turn_of st.turn seat ≡ Some t → has_room cell (entries t.writes) ≡ true
-put_fits st sound seat cell value e t is =
+pub put-fits : (st : State) → Sound st → (seat cell value : ℕ) → refusal_of (meaning_of st) (calls.Put seat cell value) ≡ None → (t : Turn) → turn_of st.turn seat ≡ Some t → has_room cell (entries t.writes) ≡ true
+put-fits st sound seat cell value e t is =
     let place = none_above (nat_le seat_count seat) _ (seat_refusal (meaning_of st) (calls.Put seat cell value)) e in
     let part = part_is st sound.seats sound.within seat (leb-false seat_count seat place.0) ∙ ap (λ x. part_with_turn st x seat) is in
     let o = turn_part t st.number (latest st) in

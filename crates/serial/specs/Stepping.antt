@@ -97,8 +97,8 @@ module _ (st : State) (sound : Sound st) (t : Turn) (turn_is : st.turn ≡ Some 
       subst (Steps (meaning_of st) t.seat (turn_part t st.number (latest st)) words.Put 0) (answered_is ws _ _ (ap (λ (x : Stage). stage_sight x st.number (latest st)) asked) (sym wrote))
       (effects.puts goes write (ap stage_request asked) 0 (omega (arith, ap (λ (x : Stage). stage_owed x t.kind) asked)) _)
 
-  pub put_room : (write : Write) → t.stage ≡ Putting write → has_room write.cell (entries t.writes) ≡ true
-  put_room write asked = ap (λ (x : Stage). stage_room x t.kind t.writes) (sym asked) ∙ ap turn_room (sym turn_is) ∙ sound.fits
+  pub put-room : (write : Write) → t.stage ≡ Putting write → has_room write.cell (entries t.writes) ≡ true
+  put-room write asked = ap (λ (x : Stage). stage_room x t.kind t.writes) (sym asked) ∙ ap turn_room (sym turn_is) ∙ sound.fits
 
   writer_is : (k : Kind) → is_writer k ≡ true → k ≡ Writer
   writer_is Reader e = absurd (true≢false (sym e))
@@ -112,11 +112,11 @@ module _ (st : State) (sound : Sound st) (t : Turn) (turn_is : st.turn ≡ Some 
   owed_is stage kind at is = (λ i. stage_owed (at i) (is i))
 
   -- ended
-  ended_seats : (meaning_of (ended_at st t.seat)).seats ≡ slice_set (meaning_of st).seats t.seat None
-  ended_seats = gives_up st.waiting st.number (latest st) t ∙ ap (λ (l : List (Option Open)). set l t.seat None) (sym old_seats)
+  ended-seats : (meaning_of (ended_at st t.seat)).seats ≡ slice_set (meaning_of st).seats t.seat None
+  ended-seats = gives_up st.waiting st.number (latest st) t ∙ ap (λ (l : List (Option Open)). set l t.seat None) (sym old_seats)
 
   ended_is : with_seat (meaning_of st) t.seat None (meaning_of (ended_at st t.seat)).waits ≡ meaning_of (ended_at st t.seat)
-  ended_is = (λ i. record { cells = latest st; number = st.number; seats = sym ended_seats i; waits = (meaning_of (ended_at st t.seat)).waits })
+  ended_is = (λ i. record { cells = latest st; number = st.number; seats = sym ended-seats i; waits = (meaning_of (ended_at st t.seat)).waits })
 
   pub ended_sound : Sound (ended_at st t.seat)
   ended_sound = record {
@@ -125,7 +125,7 @@ module _ (st : State) (sound : Sound st) (t : Turn) (turn_is : st.turn ≡ Some 
     seats = length-set st.waiting t.seat None ∙ sound.seats;
     within = omega arith;
     fits = refl;
-    room = room_after (ended_at st t.seat) None ended_seats (omega arith);
+    room = room_after (ended_at st t.seat) None ended-seats (omega arith);
   }
 
   pub ends_now : ((t.stage ≡ Made) × (t.kind ≡ Writer)) ⊎ ((t.stage ≡ Ending) × (t.kind ≡ Reader)) → TurnSteps st t words.Ended st.number (ended_at st t.seat)

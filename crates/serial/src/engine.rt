@@ -2,7 +2,6 @@ ghost use Rattle.serial.specs.States.{meaning_of};
 ghost use Rattle.serial.specs.Accepting.{sound_of};
 ghost use Rattle.serial.specs.Progressing.{someone_moves};
 ghost use Rattle.serial.specs.Parts.{seats_sized};
-ghost use Rattle.std.proofs.Common.{arith, length-take};
 
 use crate::serial::Serial;
 use crate::state::Stage;
@@ -18,8 +17,6 @@ impl Engine for Serial {
     ghost progress = { λ e. someone_moves e.state (sound_of e) };
 
     ghost sized = { λ e. seats_sized e.state e.seats };
-
-    ghost few = { λ e. omega (arith, length-take e.state.count e.state.cells, e.count) };
 
     fn step_bound() -> u32 {
         Self::BOUND

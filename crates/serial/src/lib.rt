@@ -1,4 +1,6 @@
 // The one-at-a-time engine: one transaction has the turn, and the others wait until it has ended.
+#![tactic(auto)]
+
 mod engine;
 mod moves;
 mod refusals;

@@ -1,4 +1,6 @@
 // A sheet is the text in which a grower hands in a start and a list of calls. Reading it is the inverse of writing it.
+#![tactic(auto)]
+
 mod call;
 mod cursor;
 mod error;

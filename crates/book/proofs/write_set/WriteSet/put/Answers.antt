@@ -4,7 +4,7 @@ use Rattle.std.proofs.lemmas.Bool.{eqb-false, eqb-true}
 use Rattle.book.specs.Distinct.{distinct}
 use Rattle.book.specs.Writes.{with_put}
 use Rattle.book.specs.WriteSets.{entries}
-use Rattle.book.proofs.WriteSearch.{distinct_put, front_within, new_put, room-found, room_new, room-none, take_set_front}
+use Rattle.book.proofs.WriteSearch.{distinct-put, front_within, new_put, room-found, room_new, room-none, take_set_front}
 use Rattle.book.proofs.write_set.WriteSet.put.Goals as goal
 use Rattle.book.proofs.write_set.WriteSet.put.Goals.{Else-is-full, In-Some}
 
@@ -25,7 +25,7 @@ offset-bounds-self-found c =
 
 pub invariant-of-self : goal.invariant-of-self
 invariant-of-self c =
-    (length-set c.args.self.now.writes c.in-Some.found c.args.write ∙ c.args.self.now.whole, (c.args.self.now.few, (ap distinct (replaced (goal.at.invariant-of-self c).In-Some) ∙ distinct_put c.args.write (entries c.args.self.now) c.args.self.now.apart, tt)))
+    (length-set c.args.self.now.writes c.in-Some.found c.args.write ∙ c.args.self.now.whole, (c.args.self.now.few, (ap distinct (replaced (goal.at.invariant-of-self c).In-Some) ∙ distinct-put c.args.write (entries c.args.self.now) c.args.self.now.apart, tt)))
 
 pub returns-in-Some : goal.returns-in-Some
 returns-in-Some c = record { room = room-found c.args.write.cell (entries c.args.self.now) _ (c.in-Some.ensures.1 c.args.write); after = replaced (goal.at.returns-in-Some c).In-Some }
@@ -40,7 +40,7 @@ pub invariant-of-self-2 : goal.invariant-of-self-2
 invariant-of-self-2 c =
     let long = c.args.self.now.whole in
     let room = eqb-false _ _ (sym c.if-is-full.ensures) in
-    (length-set c.args.self.now.writes c.args.self.now.len c.args.write ∙ c.args.self.now.whole, (omega (arith, room, c.args.self.now.few), (ap distinct (added (goal.at.invariant-of-self-2 c).Else-is-full long) ∙ distinct_put c.args.write (entries c.args.self.now) c.args.self.now.apart, tt)))
+    (length-set c.args.self.now.writes c.args.self.now.len c.args.write ∙ c.args.self.now.whole, (omega (arith, room, c.args.self.now.few), (ap distinct (added (goal.at.invariant-of-self-2 c).Else-is-full long) ∙ distinct-put c.args.write (entries c.args.self.now) c.args.self.now.apart, tt)))
 
 pub returns : goal.returns
 returns c =

@@ -1,10 +1,10 @@
 use Rattle.std.proofs.Common.{sym, refl, ◌∙◌}
 use Rattle.serial.specs.States.{meaning_of}
-use Rattle.serial.specs.Accepting.{put_fits, put_idle, sound_of}
+use Rattle.serial.specs.Accepting.{put-fits, put-idle, sound_of}
 use Rattle.serial.proofs.engine.SerialEngine.put.Goals as goal
 
 pub ask-requires : goal.ask-requires
 ask-requires c =
     let e = c.args.self.now in
     let none = sym c.refusal.ensures ∙ c.in-default.is in
-    record { idle = put_idle (meaning_of e.state) c.args.seat c.args.cell c.args.value none; unmade = refl; room = λ t is. put_fits e.state (sound_of e) c.args.seat c.args.cell c.args.value none t is }
+    record { idle = put-idle (meaning_of e.state) c.args.seat c.args.cell c.args.value none; unmade = refl; room = λ t is. put-fits e.state (sound_of e) c.args.seat c.args.cell c.args.value none t is }
