@@ -16,8 +16,8 @@ pub trait Entry {
 
 // Where the last entry that suits the question stands, or none where no entry does.
 pub fn last_match<T: Entry>(entries: &[T], question: &T::Question) -> Option<usize>
-    ensures place { result ≡ last_match (λ x. suits x question.now) entries.now }
-    ensures last { IsLast (λ x. suits x question.now) entries.now result }
+    ensures place { result ≡ last_match (λ x. T.suits x question.now) entries.now }
+    ensures last { IsLast (λ x. T.suits x question.now) entries.now result }
 {
     let mut found = None;
     for (i, entry) in entries.iter().enumerate() {
