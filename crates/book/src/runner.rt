@@ -20,7 +20,7 @@ fn accepted(r: Result<(), Refusal>) -> Answer
 
 // Makes one call on an engine.
 pub fn call_on<E: Engine>(engine: &mut E, call: Call) -> Answer
-    ensures does { Does bound (meaning engine.old) call result (meaning engine.new) }
+    ensures does { Does E.bound (E.meaning engine.old) call result (E.meaning engine.new) }
     ensures unchanged { IfDeclined result (engine.new ≡ engine.old) }
 {
     match call {
@@ -46,7 +46,7 @@ fn says_free(standing: Result<Standing, Refusal>) -> bool
 
 // Whether no seat of the engine carries a transaction.
 fn all_free<E: Engine>(engine: &E) -> bool
-    ensures { result ≡ none_open (meaning engine.now).seats }
+    ensures { result ≡ none_open (E.meaning engine.now).seats }
 {
     for seat in 0..SEATS {
         if !says_free(engine.standing(seat)) {
@@ -59,7 +59,7 @@ fn all_free<E: Engine>(engine: &E) -> bool
 // Makes the calls one after the other and writes each answer into its place. Declined, with nothing touched, where there
 // is no room for the answers or a seat is not free.
 pub fn run<E: Engine>(engine: &mut E, calls: &[Call], answers: &mut [Answer]) -> Result<(), Refusal>
-    ensures { MatchResult result (λ _. (run_refusal (length calls.now) (length answers.old) (meaning engine.old) ≡ None) × Ran bound (meaning engine.old) calls.now answers.old answers.new (meaning engine.new)) (λ refusal. (run_refusal (length calls.now) (length answers.old) (meaning engine.old) ≡ Some refusal) × (engine.new ≡ engine.old) × (answers.new ≡ answers.old)) }
+    ensures { MatchResult result (λ _. (run_refusal (length calls.now) (length answers.old) (E.meaning engine.old) ≡ None) × Ran E.bound (E.meaning engine.old) calls.now answers.old answers.new (E.meaning engine.new)) (λ refusal. (run_refusal (length calls.now) (length answers.old) (E.meaning engine.old) ≡ Some refusal) × (engine.new ≡ engine.old) × (answers.new ≡ answers.old)) }
 {
     if answers.len() < calls.len() {
         return Err(Refusal::ListTooShort);

@@ -11,8 +11,8 @@ returns-in-UnreadableLine c =
     let line = ap (λ r. codes "no " ++ (decimal (refusal_number c.args.refusal) ++ (line_of r ++ (10 ∷ [])))) (sym c.in-UnreadableLine.is) in
     IfOk-weaker c.format.result _ (λ t. string_bytes t ≡ refusal_text c.args.refusal) (λ t e. e ∙ number ∙ line) c.format.ensures.ok
 
-pub returns-in-default : goal.returns-in-default
-returns-in-default c =
+pub returns-in_default : goal.returns-in_default
+returns-in_default c =
     let number = ap (λ (n : ℕ). codes "no " ++ (decimal n ++ (10 ∷ []))) c.number-number.ensures in
-    let line = ap (λ (l : List ℕ). codes "no " ++ (decimal (refusal_number c.args.refusal) ++ (l ++ (10 ∷ [])))) (sym (names_no_line c.args.refusal c.in-default.not-UnreadableLine)) in
-    IfOk-weaker c.format-in-default.result _ (λ t. string_bytes t ≡ refusal_text c.args.refusal) (λ t e. e ∙ number ∙ line) c.format-in-default.ensures.ok
+    let line = ap (λ (l : List ℕ). codes "no " ++ (decimal (refusal_number c.args.refusal) ++ (l ++ (10 ∷ [])))) (sym (names_no_line c.args.refusal c.in_default.not-UnreadableLine)) in
+    IfOk-weaker c.format-in_default.result _ (λ t. string_bytes t ≡ refusal_text c.args.refusal) (λ t e. e ∙ number ∙ line) c.format-in_default.ensures.ok

@@ -6,11 +6,11 @@ use Rattle.sheet.proofs.line.operands.Goals as goal
 pub loop-cursor-init : goal.loop-cursor-init
 loop-cursor-init c = (rw c.clear.ensures.items (record { fits = tt; split = refl; ends = c.requires }), refl)
 
-pub returns-in-default : goal.returns-in-default
-returns-in-default c =
+pub returns-in_default : goal.returns-in_default
+returns-in_default c =
     let feed = c.loop-cursor-test.ensures in
     let same = moved-rest _ _ 0 0 feed.moved in
-    let none = c.in-default.ensures in
+    let none = c.in_default.ensures in
     (not_begun _ _ _ c.loop-cursor.invariant.0 (sym feed.found) (rw same at none.0), omega (arith, none.1, feed.moved.line, c.loop-cursor.invariant.1))
 
 pub loop-cursor-smaller : goal.loop-cursor-smaller
@@ -24,7 +24,7 @@ loop-cursor-preserved c =
     let feed = c.loop-cursor-test.ensures in
     let same = moved-rest _ _ 0 0 feed.moved in
     let some = c.in-Some.ensures in
-    (rw c.in-ok-push.ensures.items (begun_more _ _ _ _ _ c.loop-cursor.invariant.0 some.0 (sym same ∙ some.1.split) some.2), omega (arith, some.1.line, feed.moved.line, c.loop-cursor.invariant.1))
+    (rw c.in_ok-push.ensures.items (begun_more _ _ _ _ _ c.loop-cursor.invariant.0 some.0 (sym same ∙ some.1.split) some.2), omega (arith, some.1.line, feed.moved.line, c.loop-cursor.invariant.1))
 
 pub returns : goal.returns
 returns c =

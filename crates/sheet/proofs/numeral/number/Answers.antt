@@ -5,30 +5,30 @@ use Rattle.std.specs.Str.Parse.{AllDigits, digits_value}
 use Rattle.sheet.proofs.Decimals.{digit_parts, reads-value, shape_parts, shape_spelled, spelled-digit, spelled_out, summed_more, summed_short}
 use Rattle.sheet.proofs.numeral.number.Goals as goal
 
-pub returns-then-not-has-number-shape : goal.returns-then-not-has-number-shape
-returns-then-not-has-number-shape c n fits e = both_ways _ (sym c.if-not-has-number-shape.ensures) (shape_spelled _ n (spelled_out _ n fits e))
+pub returns-then-not-has_number_shape : goal.returns-then-not-has_number_shape
+returns-then-not-has_number_shape c n fits e = both_ways _ (sym c.if-not-has_number_shape.ensures) (shape_spelled _ n (spelled_out _ n fits e))
 
-pub returns-then-not-is-digit : goal.returns-then-not-is-digit
-returns-then-not-is-digit c n fits e = both_ways _ (sym c.if-not-is-digit.ensures) (spelled-digit _ n _ (spelled_out _ n fits e) c.loop-b-test.true)
+pub returns-then-not-is_digit : goal.returns-then-not-is_digit
+returns-then-not-is_digit c n fits e = both_ways _ (sym c.if-not-is_digit.ensures) (spelled-digit _ n _ (spelled_out _ n fits e) c.loop-b-test.true)
 
-pub overflow-mul-value : goal.overflow-mul-value
-overflow-mul-value c =
-    let short = summed_short _ _ _ (shape_parts _ (sym c.if-not-has-number-shape.ensures)).1 c.loop-b.invariant in
+pub overflow_mul-value : goal.overflow_mul-value
+overflow_mul-value c =
+    let short = summed_short _ _ _ (shape_parts _ (sym c.if-not-has_number_shape.ensures)).1 c.loop-b.invariant in
     record { fits = omega (arith, short) }
 
-pub overflow-add-value : goal.overflow-add-value
-overflow-add-value c =
-    let short = summed_short _ _ _ (shape_parts _ (sym c.if-not-has-number-shape.ensures)).1 c.loop-b.invariant in
-    let range = digit_parts (get_or c.args.digits.now c.loop-b.b-index 0) (sym c.if-not-is-digit.ensures) in
+pub overflow_add-value : goal.overflow_add-value
+overflow_add-value c =
+    let short = summed_short _ _ _ (shape_parts _ (sym c.if-not-has_number_shape.ensures)).1 c.loop-b.invariant in
+    let range = digit_parts (get_or c.args.digits.now c.loop-b.b-index 0) (sym c.if-not-is_digit.ensures) in
     record { fits = omega (arith, short) }
 
 pub loop-b-preserved : goal.loop-b-preserved
 loop-b-preserved c =
-    let range = digit_parts _ (sym c.if-not-is-digit.ensures) in
+    let range = digit_parts _ (sym c.if-not-is_digit.ensures) in
     rw c.from.ensures (summed_more _ _ _ c.loop-b-test.true range.0 range.1 c.loop-b.invariant)
 
 pub returns : goal.returns
 returns c =
     let all = take_all c.loop-b.b-index c.args.digits.now (omega arith) in
     rw c.ok.ensures.value
-    (reads-value _ _ _ (sym c.if-not-has-number-shape.ensures) (subst (AllDigits 10) all c.loop-b.invariant.digits) (c.loop-b.invariant.means ∙ ap (digits_value 10) all) c.try-from.ensures)
+    (reads-value _ _ _ (sym c.if-not-has_number_shape.ensures) (subst (AllDigits 10) all c.loop-b.invariant.digits) (c.loop-b.invariant.means ∙ ap (digits_value 10) all) c.try_from.ensures)

@@ -7,5 +7,5 @@ use Rattle.book.proofs.write_set.WriteSet.position.Goals as goal
 
 pub returns : goal.returns
 returns c =
-    let found = c.last-match.ensures ∙ ap (λ (l : List Write). last_match (test c.args.cell) l) c.as-slice.ensures in
+    let found = c.last_match.ensures.place ∙ ap (λ (l : List Write). last_match (test c.args.cell) l) c.as_slice.ensures in
     subst (Position c.args.cell (entries c.args.self.now)) (sym found) (finds c.args.cell (entries c.args.self.now) c.args.self.now.apart)

@@ -6,5 +6,5 @@ use Rattle.serial.proofs.engine.SerialEngine.put.Goals as goal
 pub ask-requires : goal.ask-requires
 ask-requires c =
     let e = c.args.self.now in
-    let none = sym c.refusal.ensures ∙ c.in-default.is in
+    let none = sym c.refusal.ensures ∙ c.in_default.is in
     record { idle = put-idle (meaning_of e.state) c.args.seat c.args.cell c.args.value none; unmade = refl; room = λ t is. put-fits e.state (sound_of e) c.args.seat c.args.cell c.args.value none t is }

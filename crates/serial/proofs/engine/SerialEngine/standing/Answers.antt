@@ -8,4 +8,4 @@ pub returns : goal.returns
 returns c =
     let e = c.args.self.now in
     let part = part_is e.state e.seats e.within c.args.seat c.if-seat-ge-SEATS.false in
-    ap Ok (c.standing-in.ensures ∙ ap standing_in (sym part)) ∙ sym (cond-false _ _ _ (lt-leb 8 c.args.seat c.if-seat-ge-SEATS.false))
+    ap Ok (c.standing_in.ensures ∙ ap standing_in (sym part)) ∙ sym (cond-false _ _ _ (lt-leb 8 c.args.seat c.if-seat-ge-SEATS.false))

@@ -7,8 +7,8 @@ use Rattle.serial.specs.Accepting.{sound_of}
 use Rattle.serial.specs.Stepping.{answered_sound, put-room, puts_now}
 use Rattle.serial.proofs.serial.Serial.add_put.Goals as goal
 
-pub invariant-of-self : goal.invariant-of-self
-invariant-of-self c =
+pub invariant_of-self : goal.invariant_of-self
+invariant_of-self c =
     let e = c.args.self.now in
     let s = answered_sound e.state (sound_of e) c.args.turn c.requires.turn c.put.new.self (ap (λ (x : Stage). has_made (stage_sight x e.state.number (latest e.state))) c.requires.asked) in
     (tt, (s.cells, (s.count, (s.seats, (s.within, (s.fits, (s.room, tt)))))))

@@ -2,19 +2,19 @@ use Rattle.std.proofs.Common.{sym, ◌∙◌}
 use Rattle.serial.specs.Accepting.{asks, asks_sound, some_turn, sound_of}
 use Rattle.serial.proofs.serial.Serial.ask.Goals as goal
 
-pub invariant-of-self : goal.invariant-of-self
-invariant-of-self c =
+pub invariant_of-self : goal.invariant_of-self
+invariant_of-self c =
     let e = c.args.self.now in
-    let is = sym c.turn-of.ensures ∙ c.in-Some.is in
+    let is = sym c.turn_of.ensures ∙ c.in-Some.is in
     let s = asks_sound e.state (sound_of e) c.args.seat c.args.stage c.requires.idle c.requires.unmade c.in-Some.turn is (c.requires.room c.in-Some.turn is) in
     (tt, (s.cells, (s.count, (s.seats, (s.within, (s.fits, (s.room, tt)))))))
 
 pub returns-in-Some : goal.returns-in-Some
 returns-in-Some c =
     let e = c.args.self.now in
-    asks e.state (sound_of e) c.args.seat c.args.stage c.requires.idle c.requires.unmade c.in-Some.turn (sym c.turn-of.ensures ∙ c.in-Some.is)
+    asks e.state (sound_of e) c.args.seat c.args.stage c.requires.idle c.requires.unmade c.in-Some.turn (sym c.turn_of.ensures ∙ c.in-Some.is)
 
-pub returns-in-default : goal.returns-in-default
-returns-in-default c =
+pub returns-in_default : goal.returns-in_default
+returns-in_default c =
     let e = c.args.self.now in
-    absurd (some_turn e.state (sound_of e) c.args.seat c.args.stage c.requires.idle c.requires.unmade (sym c.turn-of.ensures ∙ c.in-default.is))
+    absurd (some_turn e.state (sound_of e) c.args.seat c.args.stage c.requires.idle c.requires.unmade (sym c.turn_of.ensures ∙ c.in_default.is))

@@ -10,15 +10,15 @@ commit-requires c =
     let e = c.args.self.now in
     omega (arith, number_left e.state (sound_of e) c.args.turn c.requires.turn c.requires.asked c.requires.writer)
 
-pub invariant-of-self : goal.invariant-of-self
-invariant-of-self c =
+pub invariant_of-self : goal.invariant_of-self
+invariant_of-self c =
     let e = c.args.self.now in
-    let wrote = c.written-over-cells.ensures.front ∙ ap (λ (l : List Write). applied l (latest e.state)) c.as-slice.ensures in
-    let s = subst Sound (sym c.commit.ensures.after) (made_sound e.state (sound_of e) c.args.turn c.requires.turn c.written-over-cells.result c.written-over-cells.ensures.long wrote c.requires.asked c.requires.writer) in
+    let wrote = c.written_over-cells.ensures.front ∙ ap (λ (l : List Write). applied l (latest e.state)) c.as_slice.ensures in
+    let s = subst Sound (sym c.commit.ensures.after) (made_sound e.state (sound_of e) c.args.turn c.requires.turn c.written_over-cells.result c.written_over-cells.ensures.long wrote c.requires.asked c.requires.writer) in
     (s.cells, (s.count, (s.seats, (s.within, (s.fits, (s.room, tt))))))
 
 pub returns : goal.returns
 returns c =
     let e = c.args.self.now in
-    let wrote = c.written-over-cells.ensures.front ∙ ap (λ (l : List Write). applied l (latest e.state)) c.as-slice.ensures in
-    steps_to _ _ _ _ _ _ _ c.commit.ensures.answer c.commit.ensures.after (makes_now e.state (sound_of e) c.args.turn c.requires.turn c.written-over-cells.result c.written-over-cells.ensures.long wrote c.requires.asked c.requires.writer)
+    let wrote = c.written_over-cells.ensures.front ∙ ap (λ (l : List Write). applied l (latest e.state)) c.as_slice.ensures in
+    steps_to _ _ _ _ _ _ _ c.commit.ensures.answer c.commit.ensures.after (makes_now e.state (sound_of e) c.args.turn c.requires.turn c.written_over-cells.result c.written_over-cells.ensures.long wrote c.requires.asked c.requires.writer)

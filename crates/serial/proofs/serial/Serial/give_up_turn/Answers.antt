@@ -3,13 +3,13 @@ use Rattle.serial.specs.Accepting.{Sound, sound_of}
 use Rattle.serial.specs.Stepping.{ended_sound, ends_now, steps_to}
 use Rattle.serial.proofs.serial.Serial.give_up_turn.Goals as goal
 
-pub invariant-of-self : goal.invariant-of-self
-invariant-of-self c =
+pub invariant_of-self : goal.invariant_of-self
+invariant_of-self c =
     let e = c.args.self.now in
-    let s = subst Sound (sym c.give-up-turn.ensures.after) (ended_sound e.state (sound_of e) c.args.turn c.requires.turn) in
+    let s = subst Sound (sym c.give_up_turn.ensures.after) (ended_sound e.state (sound_of e) c.args.turn c.requires.turn) in
     (s.cells, (s.count, (s.seats, (s.within, (s.fits, (s.room, tt))))))
 
 pub returns : goal.returns
 returns c =
     let e = c.args.self.now in
-    steps_to _ _ _ _ _ _ _ c.give-up-turn.ensures.answer c.give-up-turn.ensures.after (ends_now e.state (sound_of e) c.args.turn c.requires.turn c.requires.ending)
+    steps_to _ _ _ _ _ _ _ c.give_up_turn.ensures.answer c.give_up_turn.ensures.after (ends_now e.state (sound_of e) c.args.turn c.requires.turn c.requires.ending)

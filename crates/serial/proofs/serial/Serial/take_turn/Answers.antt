@@ -6,16 +6,16 @@ use Rattle.serial.proofs.serial.Serial.take_turn.Goals as goal
 pub unreachable-requires : goal.unreachable-requires
 unreachable-requires c =
     let e = c.args.self.now in
-    some-waits e.state (sound_of e) c.requires.free c.args.seat c.requires.busy c.in-default.is
+    some-waits e.state (sound_of e) c.requires.free c.args.seat c.requires.busy c.in_default.is
 
-pub invariant-of-self : goal.invariant-of-self
-invariant-of-self c =
+pub invariant_of-self : goal.invariant_of-self
+invariant_of-self c =
     let e = c.args.self.now in
-    let s = subst Sound (sym c.take-turn.ensures.after) (taken_sound e.state (sound_of e) c.requires.free c.args.seat c.requires.busy c.in-Some.kind c.empty.result c.in-Some.is c.empty.ensures) in
+    let s = subst Sound (sym c.take_turn.ensures.after) (taken_sound e.state (sound_of e) c.requires.free c.args.seat c.requires.busy c.in-Some.kind c.empty.result c.in-Some.is c.empty.ensures) in
     (s.cells, (s.count, (s.seats, (s.within, (s.fits, (s.room, tt))))))
 
 pub returns : goal.returns
 returns c =
     let e = c.args.self.now in
     let opens = opens_now e.state (sound_of e) c.requires.free c.args.seat c.requires.busy c.in-Some.kind c.empty.result c.in-Some.is c.empty.ensures in
-    (opens.0, opens.1, steps_to _ _ _ _ _ _ _ c.take-turn.ensures.answer c.take-turn.ensures.after opens.2)
+    (opens.0, opens.1, steps_to _ _ _ _ _ _ _ c.take_turn.ensures.answer c.take_turn.ensures.after opens.2)

@@ -1,8 +1,8 @@
 use Rattle.serial.specs.Accepting.{opening_sound, opening-waits, sound_of}
 use Rattle.serial.proofs.serial.Serial.wait_for_turn.Goals as goal
 
-pub invariant-of-self : goal.invariant-of-self
-invariant-of-self c =
+pub invariant_of-self : goal.invariant_of-self
+invariant_of-self c =
     let s = opening_sound c.args.self.now.state (sound_of c.args.self.now) c.args.kind c.args.seat c.requires in
     (s.cells, (s.count, (s.seats, (s.within, (s.fits, (s.room, tt))))))
 

@@ -1,8 +1,8 @@
 use Rattle.std.proofs.Common.{ℕ, false, replicate, None, refl, arith}
 use Rattle.serial.proofs.serial.Serial.with_cells.Goals as goal
 
-pub invariant-of-result : goal.invariant-of-result
-invariant-of-result c = (c.filled.ensures.long, (c.requires.few, (refl, (omega arith, (refl, (omega (arith, c.requires.room), tt))))))
+pub invariant_of-result : goal.invariant_of-result
+invariant_of-result c = (c.filled.ensures.long, (c.requires.few, (refl, (omega arith, (refl, (omega (arith, c.requires.room), tt))))))
 
 pub returns : goal.returns
 returns c = (λ i. record { cells = c.filled.ensures.front i; number = c.args.number; seats = replicate 8 None; waits = λ (_ : ℕ). false })

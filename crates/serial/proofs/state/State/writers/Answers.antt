@@ -5,19 +5,19 @@ use Rattle.book.specs.Calls.{will_make}
 use Rattle.serial.specs.States.{meaning_of}
 use Rattle.serial.specs.Parts.{part_is, seats_sized}
 use Rattle.serial.proofs.state.State.writers.Goals as goal
-use Rattle.serial.proofs.state.State.writers.Goals.{then-will-make, else-will-make}
+use Rattle.serial.proofs.state.State.writers.Goals.{then-will_make, else-will_make}
 
 pub loop-seat-preserved : goal.loop-seat-preserved
 loop-seat-preserved c =
     let st = c.args.self.now in
     let part = part_is st c.requires.sized c.requires.within c.loop-seat.seat (omega arith) in
     let within : c.loop-seat.seat < length (meaning_of st).seats = omega (arith, seats_sized st c.requires.sized) in
-    elim c.if-will-make.branch [
-      | then-will-make w ↦
-          let more = count_by_more_yes will_make (meaning_of st).seats c.loop-seat.seat None within (ap will_make part ∙ sym w.if-will-make.ensures) in
+    elim c.if-will_make.branch [
+      | then-will_make w ↦
+          let more = count_by_more_yes will_make (meaning_of st).seats c.loop-seat.seat None within (ap will_make part ∙ sym w.if-will_make.ensures) in
           (omega (arith, w.n-is), w.n-is ∙ ap (λ (n : ℕ). n + 1) c.loop-seat.invariant.1 ∙ sym more)
-      | else-will-make w ↦
-          let same = count_by_more_no will_make (meaning_of st).seats c.loop-seat.seat None within (ap will_make part ∙ sym w.if-will-make.ensures) in
+      | else-will_make w ↦
+          let same = count_by_more_no will_make (meaning_of st).seats c.loop-seat.seat None within (ap will_make part ∙ sym w.if-will_make.ensures) in
           (omega (arith, w.n-is), w.n-is ∙ c.loop-seat.invariant.1 ∙ sym same)
     ]
 

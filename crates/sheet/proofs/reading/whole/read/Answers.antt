@@ -10,30 +10,30 @@ use Rattle.sheet.proofs.SheetFronts.{start_rest, stops, reads}
 use Rattle.sheet.proofs.SheetLaws.{reading_laws}
 use Rattle.sheet.proofs.reading.whole.read.Goals as goal
 
-pub returns-then-too-long : goal.returns-then-too-long
-returns-then-too-long c = record { outcome = too_many_bytes (ltb-true max_bytes _ (sym c.if-too-long.ensures)); laws = reading_laws }
+pub returns-then-too_long : goal.returns-then-too_long
+returns-then-too_long c = record { outcome = too_many_bytes (ltb-true max_bytes _ (sym c.if-too_long.ensures)); laws = reading_laws }
 
-pub returns-in-default : goal.returns-in-default
-returns-in-default c =
-    let none = rw c.in-default.is at c.in-ok-heading.ensures in
-    record { outcome = no_heading (ltb-false max_bytes _ (sym c.if-too-long.ensures)) (subst NoHeading (start_rest _ _ c.new-cursor.ensures) none); laws = reading_laws }
+pub returns-in_default : goal.returns-in_default
+returns-in_default c =
+    let none = rw c.in_default.is at c.in_ok-heading.ensures in
+    record { outcome = no_heading (ltb-false max_bytes _ (sym c.if-too_long.ensures)) (subst NoHeading (start_rest _ _ c.new-cursor.ensures) none); laws = reading_laws }
 
-pub returns-in-err-heading : goal.returns-in-err-heading
-returns-in-err-heading c =
-    let p = err_from_is_err_and c.from-residual.result c.from-residual.ensures.1 in
-    record { outcome = rw (p.1, p.2) (ltb-false max_bytes _ (sym c.if-too-long.ensures)); laws = reading_laws }
+pub returns-in_err-heading : goal.returns-in_err-heading
+returns-in_err-heading c =
+    let p = err_from_is_err_and c.from_residual.result c.from_residual.ensures.1 in
+    record { outcome = rw (p.1, p.2) (ltb-false max_bytes _ (sym c.if-too_long.ensures)); laws = reading_laws }
 
-pub returns-in-err-calls : goal.returns-in-err-calls
-returns-in-err-calls c =
-    let heading = rw c.in-Some.is at c.in-ok-heading.ensures in
+pub returns-in_err-calls : goal.returns-in_err-calls
+returns-in_err-calls c =
+    let heading = rw c.in-Some.is at c.in_ok-heading.ensures in
     let split = sym (start_rest _ _ c.new-cursor.ensures) ∙ heading.1.split in
-    let second : c.read-heading.new.cursor.line ≡ 2 = omega (arith, heading.1.line, c.new-cursor.ensures.line) in
-    let stopped = subst (λ (n : ℕ). StopsCalls (rest c.read-heading.new.cursor) n c.in-err-calls.field-0.0) second c.in-err-calls.ensures in
-    let p = err_from_is_err_and c.from-residual-in-err-calls.result c.from-residual-in-err-calls.ensures.1 in
-    record { outcome = rw (p.1, p.2) (stops _ _ _ _ _ heading.0 split (ltb-false max_bytes _ (sym c.if-too-long.ensures)) _ stopped); laws = reading_laws }
+    let second : c.read_heading.new.cursor.line ≡ 2 = omega (arith, heading.1.line, c.new-cursor.ensures.line) in
+    let stopped = subst (λ (n : ℕ). StopsCalls (rest c.read_heading.new.cursor) n c.in_err-calls.field-0.0) second c.in_err-calls.ensures in
+    let p = err_from_is_err_and c.from_residual-in_err-calls.result c.from_residual-in_err-calls.ensures.1 in
+    record { outcome = rw (p.1, p.2) (stops _ _ _ _ _ heading.0 split (ltb-false max_bytes _ (sym c.if-too_long.ensures)) _ stopped); laws = reading_laws }
 
 pub returns : goal.returns
 returns c =
-    let heading = rw c.in-Some.is at c.in-ok-heading.ensures in
+    let heading = rw c.in-Some.is at c.in_ok-heading.ensures in
     let split = sym (start_rest _ _ c.new-cursor.ensures) ∙ heading.1.split in
-    record { outcome = reads _ _ _ _ _ heading.0 split (ltb-false max_bytes _ (sym c.if-too-long.ensures)) _ c.in-ok-calls.ensures; laws = reading_laws }
+    record { outcome = reads _ _ _ _ _ heading.0 split (ltb-false max_bytes _ (sym c.if-too_long.ensures)) _ c.in_ok-calls.ensures; laws = reading_laws }
