@@ -19,7 +19,7 @@ returns-else-sheet-end-ne32 c =
     let ends = word-ends c.args.sheet.now c.loop-end.end c.loop-end-test.true (or_left _ _ (eq-eqb _ 32 c.if-sheet-end-ne32.false)) in
     record { within = omega arith; value = omega (arith, ends) }
 
-pub returns-after_loop-end : goal.returns-after_loop-end
-returns-after_loop-end c =
+pub returns-after-loop-end : goal.returns-after-loop-end
+returns-after-loop-end c =
     let past = word_past c.args.sheet.now c.loop-end.end (omega arith) in
     record { within = omega arith; value = omega (arith, past) }

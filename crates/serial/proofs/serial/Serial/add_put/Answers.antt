@@ -11,7 +11,7 @@ pub invariant_of-self : goal.invariant_of-self
 invariant_of-self c =
     let e = c.args.self.now in
     let s = answered_sound e.state (sound_of e) c.args.turn c.requires.turn c.put.new.self (ap (λ (x : Stage). has_made (stage_sight x e.state.number (latest e.state))) c.requires.asked) in
-    (tt, (s.cells, (s.count, (s.seats, (s.within, (s.fits, (s.room, tt)))))))
+    record { cells = s.cells; count = s.count; seats = s.seats; within = s.within; fits = s.fits; room = s.room }
 
 pub returns : goal.returns
 returns c =

@@ -7,7 +7,7 @@ invariant_of-self c =
     let e = c.args.self.now in
     let is = sym c.turn_of.ensures ∙ c.in-Some.is in
     let s = asks_sound e.state (sound_of e) c.args.seat c.args.stage c.requires.idle c.requires.unmade c.in-Some.turn is (c.requires.room c.in-Some.turn is) in
-    (tt, (s.cells, (s.count, (s.seats, (s.within, (s.fits, (s.room, tt)))))))
+    record { cells = s.cells; count = s.count; seats = s.seats; within = s.within; fits = s.fits; room = s.room }
 
 pub returns-in-Some : goal.returns-in-Some
 returns-in-Some c =

@@ -15,7 +15,7 @@ invariant_of-self c =
     let e = c.args.self.now in
     let wrote = c.written_over-cells.ensures.front ∙ ap (λ (l : List Write). applied l (latest e.state)) c.as_slice.ensures in
     let s = subst Sound (sym c.commit.ensures.after) (made_sound e.state (sound_of e) c.args.turn c.requires.turn c.written_over-cells.result c.written_over-cells.ensures.long wrote c.requires.asked c.requires.writer) in
-    (s.cells, (s.count, (s.seats, (s.within, (s.fits, (s.room, tt))))))
+    record { cells = s.cells; count = s.count; seats = s.seats; within = s.within; fits = s.fits; room = s.room }
 
 pub returns : goal.returns
 returns c =

@@ -12,7 +12,7 @@ pub invariant_of-self : goal.invariant_of-self
 invariant_of-self c =
     let e = c.args.self.now in
     let s = subst Sound (sym c.take_turn.ensures.after) (taken_sound e.state (sound_of e) c.requires.free c.args.seat c.requires.busy c.in-Some.kind c.empty.result c.in-Some.is c.empty.ensures) in
-    (s.cells, (s.count, (s.seats, (s.within, (s.fits, (s.room, tt))))))
+    record { cells = s.cells; count = s.count; seats = s.seats; within = s.within; fits = s.fits; room = s.room }
 
 pub returns : goal.returns
 returns c =

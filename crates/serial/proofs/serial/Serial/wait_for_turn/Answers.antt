@@ -4,7 +4,7 @@ use Rattle.serial.proofs.serial.Serial.wait_for_turn.Goals as goal
 pub invariant_of-self : goal.invariant_of-self
 invariant_of-self c =
     let s = opening_sound c.args.self.now.state (sound_of c.args.self.now) c.args.kind c.args.seat c.requires in
-    (s.cells, (s.count, (s.seats, (s.within, (s.fits, (s.room, tt))))))
+    record { cells = s.cells; count = s.count; seats = s.seats; within = s.within; fits = s.fits; room = s.room }
 
 pub returns : goal.returns
 returns c = opening-waits c.args.self.now.state (sound_of c.args.self.now) c.args.kind c.args.seat c.requires
