@@ -1,4 +1,4 @@
-"""A model of cellrun: it reads a sheet and prints the answer that docs/SHEETS.md gives it.
+"""A model of cellrun: it reads a sheet and prints the answer that docs/SHEETS.md and docs/PLAYING.md give it.
 
     python3 model/cellrun.py < SHEET
 """

@@ -7,7 +7,7 @@ use Rattle.std.proofs.lemmas.Bool.{and_from, and_parts, cases_lt, eqb-false, fal
 use Rattle.std.proofs.lemmas.Bool.Decides.{nat_tests}
 use Rattle.std.specs.Result.{OkIff, result_ok}
 use Rattle.std.specs.Str.Parse.{AllDigits, digits_value}
-use Rattle.std.specs.Char.{digit_value as digitValue}
+use Rattle.std.specs.Char.{digit_value}
 use Rattle.sheet.specs.Fields.{digit}
 use Rattle.sheet.specs.Numbers.{Fits32, ReadsNumber, number_shape}
 
@@ -46,8 +46,8 @@ spelled_out bs n fits e = subst (λ (l : List ℕ). Spelled l n) (sym e) (spelle
 pub text_of_value : (bs : List ℕ) → AllDigits 10 bs → 0 < length bs → (get_or bs 0 0 ≡ 48 → length bs ≡ 1) → Fits32 (digits_value 10 bs) → bs ≡ decimal (digits_value 10 bs)
 text_of_value bs digits some plain fits = sym (decimal-digits_value own bs digits some plain (omega arith))
 
-digit_value : (c : ℕ) → 48 ≤ c → c ≤ 57 → digitValue c ≡ c - 48
-digit_value c low high = grind (arith, nat_tests)
+value_of_digit : (c : ℕ) → 48 ≤ c → c ≤ 57 → digit_value c ≡ c - 48
+value_of_digit c low high = grind (arith, nat_tests)
 
 -- the first i bytes are digits, and v is what they write
 pub record Summed (bs : List ℕ) (i v : ℕ) : Type 0 where
@@ -59,7 +59,7 @@ summed_short bs i v few h = rw h.means (digits_value_short own (take i bs) 10 h.
 
 pub summed_more : (bs : List ℕ) (i v : ℕ) → i < length bs → 48 ≤ get_or bs i 0 → get_or bs i 0 ≤ 57 → Summed bs i v → Summed bs (i + 1) (v * 10 + (get_or bs i 0 - 48))
 summed_more bs i v within low high h =
-    let is = digit_value (get_or bs i 0) low high in
+    let is = value_of_digit (get_or bs i 0) low high in
     record {
       digits = digits_more 10 bs i within h.digits (omega arith);
       means = ap (λ (w : ℕ). w * 10 + (get_or bs i 0 - 48)) h.means ∙ ap (λ (d : ℕ). digits_value 10 (take i bs) * 10 + d) (sym is) ∙ sym (digits_value_more 10 bs i within);

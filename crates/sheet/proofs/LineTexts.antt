@@ -1,6 +1,6 @@
 -- The text of a line tells its letter, its numbers and where it ends; so a line writes one call, or one heading, or none.
 use Rattle.std.proofs.Common.{◌≡◌, ℕ, List, [], ◌∷◌, ◌++◌, get_or, Some, None, decimal, Option, sym, refl, ap, ◌∙◌, subst, append_assoc, arith}
-use Rattle.std.specs.List.{AllByRecursion as All}
+use Rattle.std.specs.List.{AllByRecursion}
 use Rattle.book.specs.declared.call.Call.{Call}
 use Rattle.book.specs.declared.call.Call.TheVariants.{Open, Get, Put, End, Step}
 use Rattle.book.specs.declared.call.Kind.TheVariants.{Reader, Writer}
@@ -14,7 +14,7 @@ use Rattle.sheet.specs.Readings.{NoCall, NoHeading, ReadsCall, ReadsCallLine}
 use Rattle.sheet.specs.Texts.{call_letter, call_numbers, engine_letter, heading_text, line_text, spaced}
 use Rattle.sheet.proofs.ReadLines.{no_such_head, same_tail, same_number, spaced-ends}
 
-numbers_tell : (ns ms t u : List ℕ) → All Fits32 ns → All Fits32 ms → spaced ns ++ (10 ∷ t) ≡ spaced ms ++ (10 ∷ u) → (ns ≡ ms) × (t ≡ u)
+numbers_tell : (ns ms t u : List ℕ) → AllByRecursion Fits32 ns → AllByRecursion Fits32 ms → spaced ns ++ (10 ∷ t) ≡ spaced ms ++ (10 ∷ u) → (ns ≡ ms) × (t ≡ u)
 numbers_tell [] [] t u n-fits m-fits e = (refl, same_tail 10 10 t u e)
 numbers_tell [] (m ∷ ms) t u n-fits m-fits e = absurd (no_such_head 10 32 _ _ (λ h. omega arith) e)
 numbers_tell (n ∷ ns) [] t u n-fits m-fits e = absurd (no_such_head 32 10 _ _ (λ h. omega arith) e)
@@ -24,7 +24,7 @@ numbers_tell (n ∷ ns) (m ∷ ms) t u n-fits m-fits e =
     let on = numbers_tell ns ms t u n-fits.1 m-fits.1 both.1 in
     ((λ i. both.0 i ∷ on.0 i), on.1)
 
-pub line-tells : (c d : ℕ) (ns ms t u : List ℕ) → All Fits32 ns → All Fits32 ms → line_text c ns ++ t ≡ line_text d ms ++ u → (c ≡ d) × (ns ≡ ms) × (t ≡ u)
+pub line-tells : (c d : ℕ) (ns ms t u : List ℕ) → AllByRecursion Fits32 ns → AllByRecursion Fits32 ms → line_text c ns ++ t ≡ line_text d ms ++ u → (c ≡ d) × (ns ≡ ms) × (t ≡ u)
 line-tells c d ns ms t u n-fits m-fits e =
     let tails = sym (append_assoc (spaced ns) (10 ∷ []) t) ∙ same_tail c d _ _ e ∙ append_assoc (spaced ms) (10 ∷ []) u in
     let on = numbers_tell ns ms t u n-fits m-fits tails in
@@ -48,14 +48,14 @@ no_line_no_call bs none call after fits e = none (call_letter call) (call_number
 pub no_line_no_heading : (bs : List ℕ) → NoLine bs → NoHeading bs
 no_line_no_heading bs none engine version cells after fits e = none (engine_letter engine) (version ∷ cells) after (engine_line_letter engine) fits e
 
-module _ (before after : Cursor) (letter : ℕ) (numbers : List ℕ) (fits : All Fits32 numbers) (line : Passed before after (line_text letter numbers) 1) where
+module _ (before after : Cursor) (letter : ℕ) (numbers : List ℕ) (fits : AllByRecursion Fits32 numbers) (line : Passed before after (line_text letter numbers) 1) where
   -- each line that could stand there is this one
-  this_line : (d : ℕ) (ms u : List ℕ) → All Fits32 ms → rest before ≡ line_text d ms ++ u → (d ≡ letter) × (ms ≡ numbers) × (u ≡ rest after)
+  this_line : (d : ℕ) (ms u : List ℕ) → AllByRecursion Fits32 ms → rest before ≡ line_text d ms ++ u → (d ≡ letter) × (ms ≡ numbers) × (u ≡ rest after)
   this_line d ms u ms-fit e = line-tells d letter ms numbers u (rest after) ms-fit fits (sym e ∙ line.split)
 
   pub reads_call_line : (r : Option Call) → ReadsCall letter numbers r → ReadsCallLine before after r
   reads_call_line None none = λ call u Call-fits e. let this = this_line (call_letter call) (call_numbers call) u Call-fits e in none call this.0 this.1
-  reads_call_line (Some call) is = (subst (All Fits32) (sym is.1) fits, record { split = line.split ∙ (λ i. line_text (sym is.0 i) (sym is.1 i) ++ rest after); line = line.line })
+  reads_call_line (Some call) is = (subst (AllByRecursion Fits32) (sym is.1) fits, record { split = line.split ∙ (λ i. line_text (sym is.0 i) (sym is.1 i) ++ rest after); line = line.line })
 
   pub no_engine : ((engine : EngineChoice) → engine_letter engine ≡ letter → ⊥) → NoHeading (rest before)
   no_engine none engine version cells u h_fits e = none engine (this_line (engine_letter engine) (version ∷ cells) u h_fits e).0
@@ -66,5 +66,5 @@ module _ (before after : Cursor) (letter : ℕ) (numbers : List ℕ) (fits : All
       let z : ◌≡◌ {A = ℕ} 0 1 = cc in
       omega arith
 
-  pub reads_heading : (engine : EngineChoice) (version : ℕ) (cells : List ℕ) → engine_letter engine ≡ letter → version ∷ cells ≡ numbers → All Fits32 (version ∷ cells) × Passed before after (heading_text engine version cells) 1
-  reads_heading engine version cells e-letter e-numbers = (subst (All Fits32) (sym e-numbers) fits, record { split = line.split ∙ (λ i. line_text (sym e-letter i) (sym e-numbers i) ++ rest after); line = line.line })
+  pub reads_heading : (engine : EngineChoice) (version : ℕ) (cells : List ℕ) → engine_letter engine ≡ letter → version ∷ cells ≡ numbers → AllByRecursion Fits32 (version ∷ cells) × Passed before after (heading_text engine version cells) 1
+  reads_heading engine version cells e-letter e-numbers = (subst (AllByRecursion Fits32) (sym e-numbers) fits, record { split = line.split ∙ (λ i. line_text (sym e-letter i) (sym e-numbers i) ++ rest after); line = line.line })

@@ -4,7 +4,7 @@ use Rattle.std.proofs.lemmas.Fmt.{decimal_injective}
 use Rattle.std.proofs.ByRecursion.{All-push}
 use Rattle.std.proofs.lemmas.List.{append_cancel_left, same_lists, places}
 use Rattle.std.proofs.lemmas.Bool.{true≢false, not_from_false, and_parts, eqb-true}
-use Rattle.std.specs.List.{AllByRecursion as All}
+use Rattle.std.specs.List.{AllByRecursion}
 use Rattle.sheet.specs.Fields.{digit, is_letter, starts_with, word}
 use Rattle.sheet.specs.Lines.{FieldEnds, LineLetter, NoLine, NoOperand, NoOperands}
 use Rattle.sheet.specs.Numbers.{Fits32}
@@ -36,7 +36,7 @@ pub same_tail : (a b : ℕ) (x y : List ℕ) → a ∷ x ≡ b ∷ y → x ≡ y
 same_tail a b x y e = ap (drop 1) e
 
 -- where `seen` is read, `left` is to be read, and no line feed is next, a text that stands there has a number next
-pub next-number : (seen more left after : List ℕ) → All Fits32 seen → All Fits32 more → FieldEnds left → starts_with 10 left ≡ false → spaced more ++ (10 ∷ after) ≡ spaced seen ++ left → Next more left after
+pub next-number : (seen more left after : List ℕ) → AllByRecursion Fits32 seen → AllByRecursion Fits32 more → FieldEnds left → starts_with 10 left ≡ false → spaced more ++ (10 ∷ after) ≡ spaced seen ++ left → Next more left after
 next-number [] [] left after s m ends apart e = absurd (true≢false (ap (starts_with 10) e ∙ apart))
 next-number [] (n ∷ more) left after s m ends apart e = record { number = n; others = more; fits = m.0; split = sym e ∙ ap (λ (l : List ℕ). 32 ∷ l) (append_assoc (decimal n) (spaced more) (10 ∷ after)) }
 next-number (k ∷ seen) [] left after s m ends apart e = absurd (no_such_head 10 32 _ _ (λ h. omega arith) e)
@@ -48,7 +48,7 @@ next-number (k ∷ seen) (n ∷ more) left after s m ends apart e =
 
 -- numbers are read, and the field that was read last has ended
 pub record Begun (start numbers left : List ℕ) : Type 0 where
-  pub fits : All Fits32 numbers
+  pub fits : AllByRecursion Fits32 numbers
   pub split : start ≡ spaced numbers ++ left
   pub ends : FieldEnds left
 

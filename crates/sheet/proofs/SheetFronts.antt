@@ -1,6 +1,6 @@
 -- From a heading and the calls behind it to the whole sheet.
 use Rattle.std.proofs.Common.{◌≡◌, ℕ, ◌+◌, ◌≤◌, List, [], ◌∷◌, ◌++◌, length, drop, sym, ap, ◌∙◌, append_assoc, append-nil}
-use Rattle.std.specs.List.{AllByRecursion as All}
+use Rattle.std.specs.List.{AllByRecursion}
 use Rattle.book.specs.declared.call.Call.{Call}
 use Rattle.sheet.specs.declared.cursor.Cursor.{Cursor}
 use Rattle.sheet.specs.declared.error.ReadError.{ReadError}
@@ -16,7 +16,7 @@ use Rattle.sheet.specs.Texts.{calls_text, heading_text}
 pub start_rest : (bs : List ℕ) (c : Cursor) → AtStart bs c → rest c ≡ bs
 start_rest bs c start = (λ i. drop (start.place i) (start.sheet i))
 
-module _ (bs left : List ℕ) (engine : EngineChoice) (version : ℕ) (cells : List ℕ) (fits : All Fits32 (version ∷ cells)) (split : bs ≡ heading_text engine version cells ++ left) where
+module _ (bs left : List ℕ) (engine : EngineChoice) (version : ℕ) (cells : List ℕ) (fits : AllByRecursion Fits32 (version ∷ cells)) (split : bs ≡ heading_text engine version cells ++ left) where
   abbrev said : List Call → Content
   said calls = record { engine = engine; version = version; cells = cells; calls = calls }
 

@@ -1,6 +1,6 @@
 -- Texts tell what they are the texts of, so reading has one outcome.
 use Rattle.std.proofs.Common.{◌≡◌, ℕ, ◌+◌, ◌<◌, ◌≤◌, cond, eqb, ◌⊎◌, List, [], ◌∷◌, ◌++◌, length, get_or, drop, sym, refl, ap, ◌∙◌, inl, inr, ⊎_elim, append_assoc, append-nil, arith}
-use Rattle.std.specs.List.{AllByRecursion as All}
+use Rattle.std.specs.List.{AllByRecursion}
 use Rattle.book.specs.declared.call.Call.{Call}
 use Rattle.book.specs.declared.call.Call.TheVariants.{Open, Get, Put, End, Step}
 use Rattle.book.specs.declared.call.Kind.TheVariants.{Reader, Writer}
@@ -42,7 +42,7 @@ call-tells c d t u c-fits d-fits e =
     let line = line-tells (call_letter c) (call_letter d) (call_numbers c) (call_numbers d) t u c-fits d-fits e in
     (is_call_with c ∙ (λ i. call_with (line.0 i) (line.1 i)) ∙ sym (is_call_with d), line.2)
 
-heading_tells : (e f : EngineChoice) (v w : ℕ) (cs ds t u : List ℕ) → All Fits32 (v ∷ cs) → All Fits32 (w ∷ ds) → heading_text e v cs ++ t ≡ heading_text f w ds ++ u → (e ≡ f) × (v ∷ cs ≡ w ∷ ds) × (t ≡ u)
+heading_tells : (e f : EngineChoice) (v w : ℕ) (cs ds t u : List ℕ) → AllByRecursion Fits32 (v ∷ cs) → AllByRecursion Fits32 (w ∷ ds) → heading_text e v cs ++ t ≡ heading_text f w ds ++ u → (e ≡ f) × (v ∷ cs ≡ w ∷ ds) × (t ≡ u)
 heading_tells e f v w cs ds t u e-fits f-fits same =
     let line = line-tells (engine_letter e) (engine_letter f) (v ∷ cs) (w ∷ ds) t u e-fits f-fits same in
     (is_engine_with e ∙ ap engine_with line.0 ∙ sym (is_engine_with f), line.1, line.2)
@@ -73,7 +73,7 @@ one_more_each c cs x d ds y e (same p q) = same (λ i. e i ∷ p i) q
 one_more_each c cs x d ds y e (first_goes_on few more) = first_goes_on (omega arith) more
 one_more_each c cs x d ds y e (second_goes_on few more) = second_goes_on (omega arith) more
 
-compare_calls : (cs ds : List Call) (x y : List ℕ) → All CallFits cs → All CallFits ds → calls_text cs ++ x ≡ calls_text ds ++ y → Compared cs x ds y
+compare_calls : (cs ds : List Call) (x y : List ℕ) → AllByRecursion CallFits cs → AllByRecursion CallFits ds → calls_text cs ++ x ≡ calls_text ds ++ y → Compared cs x ds y
 compare_calls [] [] x y c-fits d-fits e = same refl e
 compare_calls [] (d ∷ ds) x y c-fits d-fits e = first_goes_on (omega arith) (record { call = d; after = calls_text ds ++ y; fits = d-fits.0; split = e ∙ append_assoc (call_text d) (calls_text ds) y })
 compare_calls (c ∷ cs) [] x y c-fits d-fits e = second_goes_on (omega arith) (record { call = c; after = calls_text cs ++ x; fits = c-fits.0; split = sym e ∙ append_assoc (call_text c) (calls_text cs) x })

@@ -2,7 +2,7 @@
 use Rattle.std.proofs.Common.{◌≡◌, ℕ, suc, ◌+◌, ◌<◌, ◌≤◌, Bool, true, false, cond, eqb, List, [], ◌∷◌, ◌++◌, length, get_or, drop, sym, refl, ap, ◌∙◌, ⊎_elim, arith, length-drop}
 use Rattle.std.proofs.lemmas.List.{at_drop_more, at_drop_all, take_at}
 use Rattle.std.proofs.lemmas.Bool.{both_ways, cases_lt, cond_both, eqb-true, false≢true}
-use Rattle.std.specs.List.{AllByRecursion as All}
+use Rattle.std.specs.List.{AllByRecursion}
 use Rattle.sheet.specs.Fields.{separator, word_length, word, starts_with}
 
 -- the byte at i is the first of what begins there
@@ -35,7 +35,7 @@ word-within bs i within = omega (arith, word_short (drop i bs), length-drop i bs
 
 -- bytes of which none parts fields
 abbrev pub Solid : List ℕ → Type 0
-Solid bs = All (λ b. separator b ≡ false) bs
+Solid bs = AllByRecursion (λ b. separator b ≡ false) bs
 
 pub word_length_front : (ds after : List ℕ) → Solid ds → word_length after ≡ 0 → word_length (ds ++ after) ≡ length ds
 word_length_front [] after solid ends = ends

@@ -1,6 +1,6 @@
 -- What reading one call after another, to the end of the bytes, comes to.
 use Rattle.std.specs.Prelude.{◌≡◌, ℕ, ◌+◌, ◌<◌, ◌≤◌, List, ◌++◌, length}
-use Rattle.std.specs.List.{AllByRecursion as All}
+use Rattle.std.specs.List.{AllByRecursion}
 use Rattle.book.specs.declared.call.Call.{Call}
 use Rattle.book.specs.declared.refusal.Refusal.TheVariants.{UnreadableLine, SheetTooLong}
 use Rattle.sheet.specs.declared.error.ReadError.{ReadError}
@@ -11,7 +11,7 @@ use Rattle.sheet.specs.Texts.{calls_text, CallFits}
 
 -- bs begin with the lines of calls, and left is what follows them
 pub record CallsFront (bs : List ℕ) (calls : List Call) (left : List ℕ) : Type 0 where
-  pub fits : All CallFits calls
+  pub fits : AllByRecursion CallFits calls
   pub split : bs ≡ calls_text calls ++ left
 
 -- reading bs, whose first line has the number line, stops with this error
@@ -22,4 +22,4 @@ pub data StopsCalls (bs : List ℕ) (line : ℕ) : ReadError → Type 0 where
 
 -- bs are the lines of calls, not too many
 abbrev pub AllCalls : List ℕ → List Call → Type 0
-AllCalls bs calls = All CallFits calls × (bs ≡ calls_text calls) × (length calls ≤ max_calls)
+AllCalls bs calls = AllByRecursion CallFits calls × (bs ≡ calls_text calls) × (length calls ≤ max_calls)

@@ -1,6 +1,6 @@
 -- What holds of the texts of headings, calls and sheets, whatever reads them.
 use Rattle.std.specs.Prelude.{◌≡◌, ℕ, ◌≤◌, List, ◌∷◌, length}
-use Rattle.std.specs.List.{AllByRecursion as All}
+use Rattle.std.specs.List.{AllByRecursion}
 use Rattle.book.specs.declared.call.Call.{Call}
 use Rattle.sheet.specs.declared.heading.EngineChoice.{EngineChoice}
 use Rattle.sheet.specs.Limits.{max_bytes, max_calls}
@@ -14,7 +14,7 @@ CallsHaveOwnTexts = (c d : Call) → CallFits c → CallFits d → call_text c �
 
 -- headings with one text are one heading
 abbrev pub HeadingsHaveOwnTexts : Type 0
-HeadingsHaveOwnTexts = (e f : EngineChoice) (v w : ℕ) (cells others : List ℕ) → All Fits32 (v ∷ cells) → All Fits32 (w ∷ others) → heading_text e v cells ≡ heading_text f w others → (e ≡ f) × (v ≡ w) × (cells ≡ others)
+HeadingsHaveOwnTexts = (e f : EngineChoice) (v w : ℕ) (cells others : List ℕ) → AllByRecursion Fits32 (v ∷ cells) → AllByRecursion Fits32 (w ∷ others) → heading_text e v cells ≡ heading_text f w others → (e ≡ f) × (v ≡ w) × (cells ≡ others)
 
 -- no bytes have two outcomes
 abbrev pub OutcomeIsUnique : Type 0

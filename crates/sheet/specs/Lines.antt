@@ -1,6 +1,6 @@
 -- What reading a number after a space, and a whole line, comes to.
 use Rattle.std.specs.Prelude.{◌≡◌, ℕ, Bool, false, List, ◌∷◌, ◌++◌, decimal, MatchBool, Option, MatchOption, ◌≢◌}
-use Rattle.std.specs.List.{AllByRecursion as All}
+use Rattle.std.specs.List.{AllByRecursion}
 use Rattle.sheet.specs.declared.cursor.Cursor.{Cursor}
 use Rattle.sheet.specs.Fields.{digit, separator, word_length}
 use Rattle.sheet.specs.Numbers.{Fits32}
@@ -25,16 +25,16 @@ ReadsOperand before after r = MatchOption r (NoOperand (rest before) × (after.l
 
 -- bs do not begin with numbers, each after a space, and a line feed
 abbrev pub NoOperands : List ℕ → Type 0
-NoOperands bs = (numbers after : List ℕ) → All Fits32 numbers → bs ≢ operands_text numbers ++ after
+NoOperands bs = (numbers after : List ℕ) → AllByRecursion Fits32 numbers → bs ≢ operands_text numbers ++ after
 
 -- found says whether the rest of a line was read, and numbers are its numbers
 abbrev pub ReadsOperands : Cursor → Cursor → Bool → List ℕ → Type 0
-ReadsOperands before after found numbers = MatchBool found (All Fits32 numbers × Passed before after (operands_text numbers) 1) (NoOperands (rest before) × (after.line ≡ before.line))
+ReadsOperands before after found numbers = MatchBool found (AllByRecursion Fits32 numbers × Passed before after (operands_text numbers) 1) (NoOperands (rest before) × (after.line ≡ before.line))
 
 -- bs do not begin with the text of a line
 abbrev pub NoLine : List ℕ → Type 0
-NoLine bs = (letter : ℕ) (numbers after : List ℕ) → LineLetter letter → All Fits32 numbers → bs ≢ line_text letter numbers ++ after
+NoLine bs = (letter : ℕ) (numbers after : List ℕ) → LineLetter letter → AllByRecursion Fits32 numbers → bs ≢ line_text letter numbers ++ after
 
 -- r and numbers are the letter and the numbers of the line that was read
 abbrev pub ReadsLine : Cursor → Cursor → Option ℕ → List ℕ → Type 0
-ReadsLine before after r numbers = MatchOption r (NoLine (rest before) × (after.line ≡ before.line)) (λ letter. All Fits32 numbers × Passed before after (line_text letter numbers) 1)
+ReadsLine before after r numbers = MatchOption r (NoLine (rest before) × (after.line ≡ before.line)) (λ letter. AllByRecursion Fits32 numbers × Passed before after (line_text letter numbers) 1)

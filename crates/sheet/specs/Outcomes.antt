@@ -1,7 +1,7 @@
 -- What reading a sheet comes to: its heading and calls, or a refusal. Each case is one line of the table in
 -- docs/SHEETS.md.
 use Rattle.std.specs.Prelude.{◌≡◌, ℕ, ◌+◌, ◌<◌, ◌≤◌, List, [], ◌∷◌, ◌++◌, length, vec_items}
-use Rattle.std.specs.List.{AllByRecursion as All}
+use Rattle.std.specs.List.{AllByRecursion}
 use Rattle.book.specs.declared.call.Call.{Call}
 use Rattle.book.specs.declared.refusal.Refusal.{Refusal}
 use Rattle.book.specs.declared.refusal.Refusal.TheVariants.{UnreadableLine, SheetTooLong}
@@ -27,7 +27,7 @@ sheet_text s = heading_text s.engine s.version s.cells ++ calls_text s.calls
 
 -- every number in it has 32 bits
 abbrev pub ContentFits : Content → Type 0
-ContentFits s = All Fits32 (s.version ∷ s.cells) × All CallFits s.calls
+ContentFits s = AllByRecursion Fits32 (s.version ∷ s.cells) × AllByRecursion CallFits s.calls
 
 -- bs begin with the text of `read`, and `left` is what follows it
 pub record Front (bs : List ℕ) (read : Content) (left : List ℕ) : Type 0 where

@@ -1,6 +1,6 @@
 -- Which call, and which engine, a line writes; and what it means that bytes begin with the line of none.
 use Rattle.std.specs.Prelude.{◌≡◌, ℕ, List, ◌∷◌, ◌++◌, vec_items, Option, MatchOption, ◌≢◌}
-use Rattle.std.specs.List.{AllByRecursion as All}
+use Rattle.std.specs.List.{AllByRecursion}
 use Rattle.book.specs.declared.call.Call.{Call}
 use Rattle.sheet.specs.declared.cursor.Cursor.{Cursor}
 use Rattle.sheet.specs.declared.heading.EngineChoice.{EngineChoice}
@@ -27,8 +27,8 @@ ReadsCallLine before after r = MatchOption r (NoCall (rest before)) (λ call. Ca
 
 -- bs do not begin with the text of a heading
 abbrev pub NoHeading : List ℕ → Type 0
-NoHeading bs = (engine : EngineChoice) (version : ℕ) (cells after : List ℕ) → All Fits32 (version ∷ cells) → bs ≢ heading_text engine version cells ++ after
+NoHeading bs = (engine : EngineChoice) (version : ℕ) (cells after : List ℕ) → AllByRecursion Fits32 (version ∷ cells) → bs ≢ heading_text engine version cells ++ after
 
 -- r is the heading on the line that was read
 abbrev pub ReadsHeadingLine : Cursor → Cursor → Option Heading → Type 0
-ReadsHeadingLine before after r = MatchOption r (NoHeading (rest before)) (λ h. All Fits32 (h.version ∷ vec_items h.cells) × Passed before after (heading_text h.engine h.version (vec_items h.cells)) 1)
+ReadsHeadingLine before after r = MatchOption r (NoHeading (rest before)) (λ h. AllByRecursion Fits32 (h.version ∷ vec_items h.cells) × Passed before after (heading_text h.engine h.version (vec_items h.cells)) 1)

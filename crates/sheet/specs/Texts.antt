@@ -1,7 +1,7 @@
 -- The text of a line: a letter, then numbers, each after one space, then a line feed.
 -- The text of a sheet: its heading's line, then one line a call.
 use Rattle.std.specs.Prelude.{ℕ, List, [], ◌∷◌, ◌++◌, decimal}
-use Rattle.std.specs.List.{flat_map, AllByRecursion as All}
+use Rattle.std.specs.List.{flat_map, AllByRecursion}
 use Rattle.book.specs.declared.call.Call.{Call}
 use Rattle.book.specs.declared.call.Call.TheVariants.{Open, Get, Put, End, Step}
 use Rattle.book.specs.declared.call.Kind.{Kind}
@@ -53,7 +53,7 @@ call_text call = line_text (call_letter call) (call_numbers call)
 
 -- every number of the call has 32 bits
 abbrev pub CallFits : Call → Type 0
-CallFits call = All Fits32 (call_numbers call)
+CallFits call = AllByRecursion Fits32 (call_numbers call)
 
 abbrev pub calls_text : List Call → List ℕ
 calls_text calls = flat_map call_text calls
