@@ -8,7 +8,7 @@ use Rattle.book.specs.declared.call.Call.TheVariants as calls
 use Rattle.book.specs.Calls.{seat_of}
 use Rattle.book.specs.Effects as effects
 use Rattle.book.specs.Effects.{Steps}
-use Rattle.book.specs.Histories.{heard, History, told}
+use Rattle.book.specs.Histories.{heard, History}
 use Rattle.book.specs.Law.{told_value}
 use Rattle.book.specs.Meaning.{Meaning, Open}
 use Rattle.book.specs.Replays.{Start, worked_answer}

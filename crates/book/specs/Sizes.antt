@@ -1,5 +1,5 @@
 -- How large a book is.
-use Rattle.std.specs.Prelude.{ℕ, ◌-◌}
+use Rattle.std.specs.Prelude.{ℕ}
 
 -- seats are numbered from 0
 abbrev pub seat_count : ℕ

@@ -1,5 +1,5 @@
 -- What a write set holds, and when it has room.
-use Rattle.std.specs.Prelude.{◌≡◌, ℕ, ◌<◌, Bool, not, ◌&&◌, ◌||◌, List, length, take, set, is_some, Some, None, Option, MatchOption, nat_le, nat_lt, slice_index_or, slice_set}
+use Rattle.std.specs.Prelude.{◌≡◌, ℕ, ◌<◌, Bool, not, ◌&&◌, ◌||◌, List, length, take, is_some, Some, None, Option, MatchOption, nat_le, nat_lt, slice_index_or, slice_set}
 use Rattle.book.specs.declared.write_set.WriteSet.{WriteSet}
 use Rattle.book.specs.Sizes.{max_writes}
 use Rattle.book.specs.Writes.{with_put, Write, written}

@@ -1,5 +1,5 @@
 -- Puts of one transaction: lists of cells with the values put to them.
-use Rattle.std.specs.Prelude.{ℕ, cond, List, [], ◌∷◌, set, Some, None, Option, ◌==◌, slice_set}
+use Rattle.std.specs.Prelude.{ℕ, cond, List, [], ◌∷◌, Some, None, Option, ◌==◌, slice_set}
 use Rattle.book.specs.declared.write.Write.{Write as CodeWrite}
 
 -- what a cell holds

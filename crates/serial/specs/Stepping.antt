@@ -12,8 +12,8 @@ use Rattle.book.specs.declared.write_set.WriteSet.{WriteSet}
 use Rattle.book.specs.Calls.{has_made, is_writer, numbers_taken, refusal_of, step_refusal, will_make}
 use Rattle.book.specs.Effects as effects
 use Rattle.book.specs.Effects.{committed, onward, Steps, tells, with_seat}
-use Rattle.book.specs.Meaning.{made, Meaning, nothing, Open, opening, seat_part, Sight, view}
-use Rattle.book.specs.Writes.{applied, CellValue, with_put, Write, written}
+use Rattle.book.specs.Meaning.{Meaning, nothing, Open, opening, seat_part, Sight, view}
+use Rattle.book.specs.Writes.{applied, CellValue, with_put, Write}
 use Rattle.book.specs.WriteSets.{entries, has_room}
 use Rattle.serial.specs.declared.state.Stage.{Stage}
 use Rattle.serial.specs.declared.state.Stage.TheVariants.{Ending, Getting, Made, Putting, Ready}
