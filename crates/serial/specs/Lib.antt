@@ -1,9 +1,5 @@
+pub mod Laws
 pub mod Moves
 pub mod Rooms
 pub mod Seats
 pub mod States
-pub mod Accepting
-pub mod Parts
-pub mod SeatLists
-pub mod Progressing
-pub mod Stepping

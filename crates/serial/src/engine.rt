@@ -1,7 +1,5 @@
 ghost use Rattle.serial.specs.States.{meaning_of};
-ghost use Rattle.serial.specs.Accepting.{sound_of};
-ghost use Rattle.serial.specs.Progressing.{someone_moves};
-ghost use Rattle.serial.specs.Parts.{seats_sized};
+ghost use Rattle.serial.specs.Laws.{seats_sized, someone_moves, sound_of};
 
 use crate::serial::Serial;
 use crate::state::Stage;

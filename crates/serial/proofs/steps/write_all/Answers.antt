@@ -1,7 +1,7 @@
 use Rattle.std.proofs.Common.{List, length, sym, ap, ◌∙◌, arith}
 use Rattle.std.proofs.lemmas.List.{drop_all, set_past}
 use Rattle.book.specs.Writes.{applied, Write}
-use Rattle.serial.specs.Stepping.{write_more}
+use Rattle.serial.proofs.Stepping.{write_more}
 use Rattle.serial.proofs.steps.write_all.Goals as goal
 
 pub loop-i-init : goal.loop-i-init

@@ -1,5 +1,5 @@
 use Rattle.std.proofs.Common.{refl, ◌∙◌, arith}
-use Rattle.serial.specs.Stepping.{front_length, front_written}
+use Rattle.serial.proofs.Stepping.{front_length, front_written}
 use Rattle.serial.proofs.steps.written_over.Goals as goal
 
 pub returns : goal.returns

@@ -1,7 +1,8 @@
 use Rattle.std.proofs.Common.{sym, refl, ◌∙◌}
 use Rattle.serial.specs.States.{meaning_of}
-use Rattle.serial.specs.Accepting.{put-fits, put-idle, sound_of}
+use Rattle.serial.proofs.Accepting.{put-fits, put-idle}
 use Rattle.serial.proofs.engine.SerialEngine.put.Goals as goal
+use Rattle.serial.specs.Laws.{sound_of}
 
 pub ask-requires : goal.ask-requires
 ask-requires c =

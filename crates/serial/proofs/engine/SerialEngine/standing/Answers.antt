@@ -1,8 +1,8 @@
 use Rattle.std.proofs.Common.{Ok, sym, ap, ◌∙◌}
 use Rattle.std.proofs.lemmas.Bool.{cond-false, lt-leb}
 use Rattle.book.specs.Engines.{standing_in}
-use Rattle.serial.specs.Parts.{part_is}
 use Rattle.serial.proofs.engine.SerialEngine.standing.Goals as goal
+use Rattle.serial.specs.Laws.{part_is}
 
 pub returns : goal.returns
 returns c =

@@ -1,10 +1,10 @@
 use Rattle.std.proofs.Common.{ℕ, sym, ◌∙◌, subst}
 use Rattle.serial.specs.Moves.{SeatSteps}
 use Rattle.serial.specs.States.{latest, meaning_of, turn_part}
-use Rattle.serial.specs.Accepting.{sound_of}
-use Rattle.serial.specs.Progressing.{turn_busy, waits_now}
-use Rattle.serial.specs.Stepping.{holder_part}
+use Rattle.serial.proofs.Progressing.{turn_busy, waits_now}
+use Rattle.serial.proofs.Stepping.{holder_part}
 use Rattle.serial.proofs.engine.SerialEngine.step.Goals as goal
+use Rattle.serial.specs.Laws.{sound_of}
 
 pub returns-then-turn-seat : goal.returns-then-turn-seat
 returns-then-turn-seat c =

@@ -3,9 +3,9 @@ use Rattle.std.proofs.lemmas.Bool.{cond-true}
 use Rattle.book.specs.Calls.{has_made}
 use Rattle.serial.specs.declared.state.Stage.{Stage}
 use Rattle.serial.specs.States.{latest, stage_sight}
-use Rattle.serial.specs.Accepting.{sound_of}
-use Rattle.serial.specs.Stepping.{answered_sound, put-room, puts_now}
+use Rattle.serial.proofs.Stepping.{answered_sound, put-room, puts_now}
 use Rattle.serial.proofs.serial.Serial.add_put.Goals as goal
+use Rattle.serial.specs.Laws.{sound_of}
 
 pub invariant_of-self : goal.invariant_of-self
 invariant_of-self c =

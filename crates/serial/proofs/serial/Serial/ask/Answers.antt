@@ -1,6 +1,7 @@
 use Rattle.std.proofs.Common.{sym, ◌∙◌}
-use Rattle.serial.specs.Accepting.{asks, asks_sound, some_turn, sound_of}
+use Rattle.serial.proofs.Accepting.{asks, asks_sound, some_turn}
 use Rattle.serial.proofs.serial.Serial.ask.Goals as goal
+use Rattle.serial.specs.Laws.{sound_of}
 
 pub invariant_of-self : goal.invariant_of-self
 invariant_of-self c =

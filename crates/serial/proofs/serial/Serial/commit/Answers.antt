@@ -1,9 +1,9 @@
 use Rattle.std.proofs.Common.{List, sym, ap, ◌∙◌, subst, arith}
 use Rattle.book.specs.Writes.{applied, Write}
 use Rattle.serial.specs.States.{latest}
-use Rattle.serial.specs.Accepting.{Sound, sound_of}
-use Rattle.serial.specs.Stepping.{made_sound, makes_now, number_left, steps_to}
+use Rattle.serial.proofs.Stepping.{made_sound, makes_now, number_left, steps_to}
 use Rattle.serial.proofs.serial.Serial.commit.Goals as goal
+use Rattle.serial.specs.Laws.{Sound, sound_of}
 
 pub commit-requires : goal.commit-requires
 commit-requires c =

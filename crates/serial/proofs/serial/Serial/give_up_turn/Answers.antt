@@ -1,7 +1,7 @@
 use Rattle.std.proofs.Common.{sym, subst}
-use Rattle.serial.specs.Accepting.{Sound, sound_of}
-use Rattle.serial.specs.Stepping.{ended_sound, ends_now, steps_to}
+use Rattle.serial.proofs.Stepping.{ended_sound, ends_now, steps_to}
 use Rattle.serial.proofs.serial.Serial.give_up_turn.Goals as goal
+use Rattle.serial.specs.Laws.{Sound, sound_of}
 
 pub invariant_of-self : goal.invariant_of-self
 invariant_of-self c =

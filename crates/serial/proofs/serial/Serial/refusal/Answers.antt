@@ -1,5 +1,5 @@
 use Rattle.std.proofs.Common.{sym, ap, ◌∙◌, arith}
-use Rattle.serial.specs.Parts.{refusal_at, refused}
+use Rattle.serial.proofs.Parts.{refusal_at, refused}
 use Rattle.serial.proofs.serial.Serial.refusal.Goals as goal
 
 pub returns-in-Open : goal.returns-in-Open

@@ -1,7 +1,7 @@
 use Rattle.std.proofs.Common.{sym, subst}
-use Rattle.serial.specs.Accepting.{Sound, sound_of}
-use Rattle.serial.specs.Stepping.{opens_now, some-waits, steps_to, taken_sound}
+use Rattle.serial.proofs.Stepping.{opens_now, some-waits, steps_to, taken_sound}
 use Rattle.serial.proofs.serial.Serial.take_turn.Goals as goal
+use Rattle.serial.specs.Laws.{Sound, sound_of}
 
 pub unreachable-requires : goal.unreachable-requires
 unreachable-requires c =

@@ -2,9 +2,9 @@ use Rattle.std.proofs.Common.{sym, ap, subst}
 use Rattle.book.specs.Calls.{has_made}
 use Rattle.serial.specs.declared.state.Stage.{Stage}
 use Rattle.serial.specs.States.{latest, stage_sight}
-use Rattle.serial.specs.Accepting.{Sound, sound_of}
-use Rattle.serial.specs.Stepping.{answered_sound, steps_to, tells_now}
+use Rattle.serial.proofs.Stepping.{answered_sound, steps_to, tells_now}
 use Rattle.serial.proofs.serial.Serial.tell.Goals as goal
+use Rattle.serial.specs.Laws.{Sound, sound_of}
 
 pub invariant_of-self : goal.invariant_of-self
 invariant_of-self c =

@@ -1,5 +1,6 @@
-use Rattle.serial.specs.Accepting.{opening_sound, opening-waits, sound_of}
+use Rattle.serial.proofs.Accepting.{opening_sound, opening-waits}
 use Rattle.serial.proofs.serial.Serial.wait_for_turn.Goals as goal
+use Rattle.serial.specs.Laws.{sound_of}
 
 pub invariant_of-self : goal.invariant_of-self
 invariant_of-self c =

@@ -3,9 +3,9 @@ use Rattle.std.proofs.lemmas.List.{take_all}
 use Rattle.std.proofs.lemmas.List.Sums.{count_by_more_yes, count_by_more_no}
 use Rattle.book.specs.Calls.{will_make}
 use Rattle.serial.specs.States.{meaning_of}
-use Rattle.serial.specs.Parts.{part_is, seats_sized}
 use Rattle.serial.proofs.state.State.writers.Goals as goal
 use Rattle.serial.proofs.state.State.writers.Goals.{then-will_make, else-will_make}
+use Rattle.serial.specs.Laws.{part_is, seats_sized}
 
 pub loop-seat-preserved : goal.loop-seat-preserved
 loop-seat-preserved c =

@@ -1,5 +1,5 @@
 -- Some busy seat of the serial engine moves: the one that has the turn, or any where none has it.
-use Rattle.std.specs.Prelude.{◌≡◌, ℕ, true, false, not, ◌&&◌, is_some, Some, None, Option, ◌≢◌, refl}
+use Rattle.std.specs.Prelude.{◌≡◌, ℕ, true, not, ◌&&◌, is_some, Some, None, Option, ◌≢◌, refl}
 use Rattle.std.proofs.Common.{sym, ap, ◌∙◌, arith}
 use Rattle.std.proofs.lemmas.Bool.{ne_eqb, not-false}
 use Rattle.book.specs.declared.answer.Word.TheVariants as words
@@ -7,22 +7,13 @@ use Rattle.book.specs.declared.call.Call.TheVariants as calls
 use Rattle.book.specs.Calls.{is_busy, refusal_of, step_refusal}
 use Rattle.book.specs.Effects as effects
 use Rattle.book.specs.Meaning.{Open, seat_part}
-use Rattle.book.specs.Progress.{SomeBusyMoves}
 use Rattle.serial.specs.declared.state.State.{State}
 use Rattle.serial.specs.declared.state.Turn.{Turn}
 use Rattle.serial.specs.Moves.{SeatSteps}
 use Rattle.serial.specs.States.{has_turn, latest, meaning_of, stage_request, turn_part}
-use Rattle.serial.specs.Accepting.{none_above, seat_place, Sound}
-use Rattle.serial.specs.Stepping.{goes, holder_part}
-
-pub someone_moves : (st : State) → Sound st → SomeBusyMoves (meaning_of st)
-someone_moves st sound s o here all = by st.turn refl
-  where
-    by : (turn : Option Turn) → st.turn ≡ turn → (b : ℕ) × (q : Open) × (seat_part (meaning_of st) b ≡ Some q) × (is_busy q ≡ true) × ((meaning_of st).waits b ≡ false)
-    by None e = (s, o, here, all s o here, ap (λ x. is_some x && not (has_turn x s)) e)
-    by (Some t) e =
-        let part = holder_part st sound t e in
-        (t.seat, turn_part t st.number (latest st), part, all t.seat (turn_part t st.number (latest st)) part, goes st sound t e)
+use Rattle.serial.proofs.Accepting.{none_above, seat_place}
+use Rattle.serial.proofs.Stepping.{holder_part}
+use Rattle.serial.specs.Laws.{Sound}
 
 busy_part : (part : Option Open) → step_refusal part ≡ None → (o : Open) × (part ≡ Some o) × (is_busy o ≡ true)
 busy_part None e = let z : ◌≡◌ {A = ℕ} 0 1 = cc in absurd (omega arith)

@@ -1,8 +1,8 @@
 -- Steps of the serial engine.
-use Rattle.std.specs.Prelude.{◌≡◌, ℕ, ◌+◌, ◌-◌, ◌<◌, ◌≤◌, Bool, true, false, not, ◌&&◌, ◌⊎◌, List, [], ◌∷◌, ◌++◌, map, length, get_or, take, drop, set, is_some, Some, None, Option, ◌==◌, slice_index_or, slice_set, refl}
+use Rattle.std.specs.Prelude.{◌≡◌, ℕ, ◌+◌, ◌-◌, ◌<◌, ◌≤◌, Bool, true, false, not, ◌&&◌, ◌⊎◌, List, [], ◌∷◌, ◌++◌, map, length, get_or, take, drop, set, is_some, Some, None, Option, slice_index_or, slice_set, refl}
 use Rattle.std.proofs.Common.{inl, inr, sym, ap, subst, ◌∙◌, arith, length-append, length-drop, length-set}
 use Rattle.std.proofs.lemmas.List.{drop_more, length-take-le, take_at}
-use Rattle.std.proofs.lemmas.Bool.{cond-true, eq-eqb, true≢false}
+use Rattle.std.proofs.lemmas.Bool.{true≢false}
 use Rattle.book.specs.declared.answer.Word.{Word}
 use Rattle.book.specs.declared.answer.Word.TheVariants as words
 use Rattle.book.specs.declared.call.Call.TheVariants as calls
@@ -23,9 +23,9 @@ use Rattle.serial.specs.Moves.{committed_at, ended_at, ready_turn, SeatSteps, ta
 use Rattle.serial.specs.Rooms.{stage_room, turn_room}
 use Rattle.serial.specs.Seats.{part_with_turn, turn_of}
 use Rattle.serial.specs.States.{has_turn, latest, meaning_of, stage_owed, stage_request, stage_sight, turn_part, turn_seat, waiting_part, with_turn}
-use Rattle.serial.specs.Accepting.{seat_place, Sound, taken-after}
-use Rattle.serial.specs.Parts.{part_is, seats_sized}
-use Rattle.serial.specs.SeatLists.{count-one, gives_up, goes_on, one, takes_turn}
+use Rattle.serial.proofs.Accepting.{seat_place, taken-after}
+use Rattle.serial.proofs.SeatLists.{count-one, gives_up, goes_on, one, takes_turn}
+use Rattle.serial.specs.Laws.{Sound, part_is, seats_sized, turn_goes_on, turn_has_part}
 
 -- one more value is written
 pub write_more : (ws : List Write) (cells now : List CellValue) (i : ℕ) (d : Write) → 0 < i → i ≤ length ws → now ≡ applied (drop i ws) cells → slice_set now (get_or ws (i - 1) d).cell (get_or ws (i - 1) d).value ≡ applied (drop (i - 1) ws) cells
@@ -43,10 +43,10 @@ module _ (st : State) (sound : Sound st) (t : Turn) (turn_is : st.turn ≡ Some 
   place = omega (arith, sound.within, ap turn_seat turn_is)
 
   pub holder_part : seat_part (meaning_of st) t.seat ≡ Some (turn_part t st.number (latest st))
-  holder_part = part_is st sound.seats sound.within t.seat place ∙ ap (λ x. part_with_turn st (turn_of x t.seat) t.seat) turn_is ∙ ap (λ x. part_with_turn st x t.seat) (cond-true (t.seat == t.seat) (Some t) None (eq-eqb t.seat t.seat refl))
+  holder_part = turn_has_part st sound t turn_is
 
   pub goes : (meaning_of st).waits t.seat ≡ false
-  goes = ap (λ x. is_some x && not (has_turn x t.seat)) turn_is ∙ ap not (eq-eqb t.seat t.seat refl)
+  goes = turn_goes_on st sound t turn_is
 
   old_seats : (meaning_of st).seats ≡ with_turn (Some t) st.number (latest st) (map waiting_part st.waiting)
   old_seats = ap (λ x. with_turn x st.number (latest st) (map waiting_part st.waiting)) turn_is

@@ -14,29 +14,16 @@ use Rattle.book.specs.Meaning.{Meaning, Open, seat_part}
 use Rattle.book.specs.Sizes.{max_number, max_writes, seat_count}
 use Rattle.book.specs.Writes.{CellValue, written}
 use Rattle.book.specs.WriteSets.{entries, has_room, lacks_room}
-use Rattle.serial.specs.declared.serial.Serial.{Serial}
 use Rattle.serial.specs.declared.state.Stage.{Stage}
 use Rattle.serial.specs.declared.state.Stage.TheVariants.{Ending, Getting, Made, Putting, Ready}
 use Rattle.serial.specs.declared.state.State.{State}
 use Rattle.serial.specs.declared.state.Turn.{Turn}
 use Rattle.serial.specs.Moves.{Asked, asked_for, turn_at, waiting_at}
-use Rattle.serial.specs.Rooms.{stage_room, turn_room}
+use Rattle.serial.specs.Rooms.{stage_room}
 use Rattle.serial.specs.Seats.{part_with_turn, turn_of}
-use Rattle.serial.specs.States.{has_turn, latest, meaning_of, stage_owed, stage_request, stage_sight, turn_part, turn_seat, waiting_part, with_turn}
-use Rattle.serial.specs.Parts.{part_is, seats_sized}
-use Rattle.serial.specs.SeatLists.{count_set, goes_on, one, waits_now}
-
--- what the engine's type says of its state
-pub record Sound (st : State) : Type 0 where
-  pub cells : length st.cells ≡ 64
-  pub count : st.count ≤ 64
-  pub seats : length st.waiting ≡ 8
-  pub within : turn_seat st.turn < 8
-  pub fits : turn_room st.turn ≡ true
-  pub room : numbers_taken (meaning_of st) ≤ 2147483647
-
-pub sound_of : (e : Serial) → Sound e.state
-sound_of e = record { cells = e.cells; count = e.count; seats = e.seats; within = e.within; fits = e.fits; room = e.room }
+use Rattle.serial.specs.States.{has_turn, latest, meaning_of, stage_owed, stage_request, stage_sight, turn_part, waiting_part, with_turn}
+use Rattle.serial.proofs.SeatLists.{count_set, goes_on, one, waits_now}
+use Rattle.serial.specs.Laws.{Sound, part_is, seats_sized}
 
 pub none_above : (b : Bool) (r : Refusal) (x : Option Refusal) → if_then b r x ≡ None → (b ≡ false) × (x ≡ None)
 none_above true r x e = let z : ◌≡◌ {A = ℕ} 0 1 = cc in absurd (omega arith)
