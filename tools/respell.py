@@ -1,7 +1,7 @@
 #!/usr/bin/env python3
 """Respells the names that this repository itself defines in specs/ and proofs/, once, at the top, after the kit's own
-script for an older Rattle has run: words in snake case, as `seat_of` for seatOf and `run_more` for run-more. A dash stays
-where it joins the names of two definitions, as in `write_set-applied`. Names of src/, generated names and strings stay.
+script for an older Rattle has run: words in snake case, as `seat_of` for seatOf and `run_more` for run-more. A dash stays where
+it joins the names of two definitions, as in `write_set-applied`. Names of src/, generated names and strings stay.
 
 usage: python3 tools/respell.py            rewrites the files below crates/
        python3 tools/respell.py --list     prints old and new, and names that would fall together, and writes nothing
@@ -10,7 +10,7 @@ import glob
 import re
 import sys
 
-# Names whose plain respelling is taken: by a tactic, or by another definition of this repository.
+# Names whose plain respelling is taken: by a tactic, a word of the library, or another definition of this repository.
 CHOSEN = {
     "first_of": "first_given",
     "seat-of": "seat_part_of",
@@ -21,7 +21,10 @@ CHOSEN = {
     "refusal-at": "refusal_is",
     "partBy": "part_with_turn",
     "starts-with": "starts_then",
+    "digit-value": "value_of_digit",
 }
+# Lemmas named after two definitions, which a dash joins.
+JOINED = {"applied-put", "distinct-put", "written-put", "writeSet-applied", "writeSet-written"}
 # a name right after `c.` is one that the check generates
 TOKEN = re.compile(r"(?<![\w'\-·])(?<!\Wc\.)[A-Za-z][\w'\-]*")
 HEAD = re.compile(r"^\s*(?:pub |abbrev |unfoldable |data |record |ruleset )*([A-Za-z][\w'\-]*)(?= *:)")
@@ -48,22 +51,16 @@ def snake(word):
     return re.sub(r"(?<=[a-z0-9])([A-Z])", lambda m: "_" + m.group(1).lower(), word)
 
 
-def new_name(name, roots):
+def new_name(name):
     if name in CHOSEN:
         return CHOSEN[name]
     if name[0].isupper():
         return name
-    parts = name.split("-")
-    if len(parts) == 2 and all(p in roots for p in parts):
-        return "-".join(snake(p) for p in parts)
-    return "_".join(snake(p) for p in parts)
+    return snake(name) if name in JOINED else snake(name).replace("-", "_")
 
 
 def table():
-    names = defined()
-    # what a dash may join: definitions and constructors, which have no dash of their own
-    roots = {n for n in names if "-" not in n}
-    return {n: new_name(n, roots) for n in sorted(names) if new_name(n, roots) != n}
+    return {n: new_name(n) for n in sorted(defined()) if new_name(n) != n}
 
 
 def main():

@@ -11,10 +11,10 @@ use Rattle.book.specs.Replays.{base, made_as, opened_as, puts_of, snapshot, Star
 use Rattle.book.specs.Sizes.{seat_count}
 use Rattle.book.specs.Transactions.{current, going_on, place, Transaction, with_asked}
 use Rattle.book.specs.Writes.{applied, CellValue, with_put, Write, written}
-use Rattle.book.proofs.Extensions.{Extension, fixed_stays, making_event, opening_event, quiet, same_some, sees_stays, told-base}
+use Rattle.book.proofs.Extensions.{Extension, fixed_stays, making_event, opening_event, quiet, same_some, sees_stays, told_base}
 use Rattle.book.proofs.Growing.{Grown, grown}
-use Rattle.book.proofs.Places.{current-same, number_given, number-quiet}
-use Rattle.book.proofs.Snapshots.{snapshot-made}
+use Rattle.book.proofs.Places.{current_same, number_given, number_quiet}
+use Rattle.book.proofs.Snapshots.{snapshot_made}
 use Rattle.book.proofs.Tied.{Fixed, MadeFact, PartTied, Sees, SeatTied, Tied}
 use Rattle.book.proofs.WriteSets.{write_set, write_set-applied, write_set-written}
 
@@ -25,8 +25,8 @@ pub not_same_request : (x y : Request) (r : Option Request) → r ≡ Some x →
 not_same_request x y r p q apart = apart (cc)
 
 -- an event that opens and makes nothing, on a book whose cells and number stay
-pub quiet-grown : (bound : ℕ) (start : Start) (e : Event) (h : History) (m m' : Meaning) (part : Option Open) → Tied bound start h m → opened_number e.hears ≡ None → made_number e.hears ≡ None → m'.number ≡ m.number → m'.cells ≡ m.cells → PartTied bound start (e ∷ h) (seat_of e.call) (current (seat_of e.call) (e ∷ h)) part → steps_taken (seat_of e.call) (e ∷ h) ≤ bound → ((t : Transaction) → e.hears ≡ told → current (seat_of e.call) h ≡ Some t → (w : ℕ) × Fixed start (e ∷ h) (place t) w) → Grown bound start e h m' (seat_of e.call) part
-quiet-grown bound start e h m m' part tied opens-none makes_none number cells own few tolds =
+pub quiet_grown : (bound : ℕ) (start : Start) (e : Event) (h : History) (m m' : Meaning) (part : Option Open) → Tied bound start h m → opened_number e.hears ≡ None → made_number e.hears ≡ None → m'.number ≡ m.number → m'.cells ≡ m.cells → PartTied bound start (e ∷ h) (seat_of e.call) (current (seat_of e.call) (e ∷ h)) part → steps_taken (seat_of e.call) (e ∷ h) ≤ bound → ((t : Transaction) → e.hears ≡ told → current (seat_of e.call) h ≡ Some t → (w : ℕ) × Fixed start (e ∷ h) (place t) w) → Grown bound start e h m' (seat_of e.call) part
+quiet_grown bound start e h m m' part tied opens-none makes_none number cells own few tolds =
     let n0 = start.number in
     let x = quiet start e h opens-none makes_none in
     let last : last_made n0 (e ∷ h) ≡ last_made n0 h = ap (λ (y : Option ℕ). unwrap_or y (last_made n0 h)) makes_none in
@@ -37,7 +37,7 @@ quiet-grown bound start e h m m' part tied opens-none makes_none number cells ow
       rising = last ∙ tied.rising ∙ ap (λ (n : ℕ). n0 + n) (sym count);
       cells = cells ∙ tied.cells ∙ sym (x.snapshots (last_made n0 h) (omega arith)) ∙ ap (snapshot start (e ∷ h)) (sym last);
       own_seat = own;
-      own-steps = few;
+      own_steps = few;
       new_told = tolds;
       new_made = λ p makes. absurd (no_number p (sym makes_none ∙ makes));
       new_opened = λ t v opens _. absurd (no_number v (sym opens-none ∙ opens));
@@ -50,7 +50,7 @@ open_seat bound start h s (Some u) o p = (u, refl, p)
 
 -- a transaction whose request is neither an opening nor an end has a view, and keeps it
 pub view_stays : (start : Start) (e : Event) (h : History) (t : Transaction) (r : Option Request) (ps : List Write) (sight : Sight) → Extension start e h → opened_as (place t) (e ∷ h) ≡ opened_as (place t) h → made_as (place t) (e ∷ h) ≡ made_as (place t) h → (t.asks ≡ Some opening → ⊥) → (t.asks ≡ Some ending → ⊥) → (r ≡ Some opening → ⊥) → Sees start h t sight → Sees start (e ∷ h) (record { before = t.before; kind = t.kind; asks = r; puts = ps }) sight
-view_stays start e h t r ps nothing x on mn not_opening not_ending new sees = absurd (not_opening sees.asks-opening)
+view_stays start e h t r ps nothing x on mn not_opening not_ending new sees = absurd (not_opening sees.asks_opening)
 view_stays start e h t r ps (view v cells) x on mn not_opening not_ending new sees = record {
   opens = ⊎_elim (λ a. absurd (not_opening a.0)) (λ b. inr (new, on ∙ b.1)) sees.opens;
   makes_none = mn ∙ sees.makes_none;
@@ -59,7 +59,7 @@ view_stays start e h t r ps (view v cells) x on mn not_opening not_ending new se
   since_start = sees.since_start;
   till_now = omega (arith, sees.till_now, x.last);
 }
-view_stays start e h t r ps (made-sight p) x on mn not_opening not_ending new sees = absurd (not_ending sees.asks-ending)
+view_stays start e h t r ps (made-sight p) x on mn not_opening not_ending new sees = absurd (not_ending sees.asks_ending)
 
 -- a step of seat s, whose part is o and whose transaction is t
 module _ (bound : ℕ) (start : Start) (h : History) (m : Meaning) (tied : Tied bound start h m) (s : ℕ) (o : Open) (t : Transaction) (is : current s h ≡ Some t) (seat : SeatTied bound start h s t o) (within : s < seat_count) where
@@ -67,7 +67,7 @@ module _ (bound : ℕ) (start : Start) (h : History) (m : Meaning) (tied : Tied 
   step hears = record { call = calls.Step s; hears = hears }
 
   now_at : (hears : Heard) → current s (step hears ∷ h) ≡ going_on (calls.Step s) hears h (Some t)
-  now_at hears = current-same s (step hears) h (eq-eqb s s refl) ∙ ap (going_on (calls.Step s) hears h) is
+  now_at hears = current_same s (step hears) h (eq-eqb s s refl) ∙ ap (going_on (calls.Step s) hears h) is
 
   taken : (hears : Heard) → steps_taken s (step hears ∷ h) ≡ counted hears (steps_taken s h)
   taken hears = cond-true (eqb s s) (counted hears (steps_taken s h)) (steps_taken s h) (eq-eqb s s refl)
@@ -92,20 +92,20 @@ module _ (bound : ℕ) (start : Start) (h : History) (m : Meaning) (tied : Tied 
     sees = sees;
   }
 
-  few-after : (hears : Heard) → counted hears (steps_taken s h) ≡ steps_taken s h + 1 → 0 < o.owed → steps_taken s (step hears ∷ h) ≤ bound
-  few-after hears one some = omega (arith, seat.owes, taken hears, one)
+  few_after : (hears : Heard) → counted hears (steps_taken s h) ≡ steps_taken s h + 1 → 0 < o.owed → steps_taken s (step hears ∷ h) ≤ bound
+  few_after hears one some = omega (arith, seat.owes, taken hears, one)
 
   -- moved
-  moved-sees : (sight : Sight) → MaySee m o sight → Sees start (step moved ∷ h) t sight
-  moved-sees sight (inl same) =
+  moved_sees : (sight : Sight) → MaySee m o sight → Sees start (step moved ∷ h) t sight
+  moved_sees sight (inl same) =
       let x = quiet start (step moved) h refl refl in
-      subst (Sees start (step moved ∷ h) t) (sym same) (sees_stays bound start (step moved) h x t o.sight (number-quiet opened_number (place t) (step moved) h refl) (number-quiet made_number (place t) (step moved) h refl) seat.sees)
-  moved-sees sight (inr (asks, none, latest)) =
+      subst (Sees start (step moved ∷ h) t) (sym same) (sees_stays bound start (step moved) h x t o.sight (number_quiet opened_number (place t) (step moved) h refl) (number_quiet made_number (place t) (step moved) h refl) seat.sees)
+  moved_sees sight (inr (asks, none, latest)) =
       let x = quiet start (step moved) h refl refl in
       let saw = subst (Sees start h t) none seat.sees in
       subst (Sees start (step moved ∷ h) t) (sym latest) (record {
-        opens = inl (seat.requests ∙ asks, number-quiet opened_number (place t) (step moved) h refl ∙ saw.opened-none);
-        makes_none = number-quiet made_number (place t) (step moved) h refl ∙ saw.makes_none;
+        opens = inl (seat.requests ∙ asks, number_quiet opened_number (place t) (step moved) h refl ∙ saw.opened_none);
+        makes_none = number_quiet made_number (place t) (step moved) h refl ∙ saw.makes_none;
         is_snapshot = tied.cells ∙ ap (snapshot start h) (sym last_is) ∙ sym (x.snapshots m.number (omega (arith, last_is)));
         since_opening = omega (arith, seat.begun, last_is);
         since_start = omega (arith, late, last_is);
@@ -124,22 +124,22 @@ module _ (bound : ℕ) (start : Start) (h : History) (m : Meaning) (tied : Tied 
         writes = seat.writes;
         begun = seat.begun;
         owes = omega (arith, seat.owes, taken moved);
-        sees = moved-sees sight may;
+        sees = moved_sees sight may;
       } in
       grown bound start (step moved) h m (with_seat m s part w) part tied
-      (quiet-grown bound start (step moved) h m (with_seat m s part w) part tied refl refl refl refl (subst (λ u. PartTied bound start (step moved ∷ h) s u part) (sym (now_at moved)) own) (few-after moved refl (omega arith)) (λ u tells _. absurd (not_told tells)))
+      (quiet_grown bound start (step moved) h m (with_seat m s part w) part tied refl refl refl refl (subst (λ u. PartTied bound start (step moved ∷ h) s u part) (sym (now_at moved)) own) (few_after moved refl (omega arith)) (λ u tells _. absurd (not_told tells)))
       refl within
     where
       not_told : moved ≡ told → ⊥
       not_told e = let z : ◌≡◌ {A = ℕ} 0 1 = cc in omega arith
 
   -- told
-  pub told-number : (cell : ℕ) → o.request ≡ Some (getting cell) → (number : ℕ) (cells : List CellValue) → o.sight ≡ view number cells → Fixed start (step told ∷ h) (place t) number × (cells ≡ snapshot start h number) × (number ≤ last_made start.number h)
-  told-number cell asks number cells saw =
+  pub told_number : (cell : ℕ) → o.request ≡ Some (getting cell) → (number : ℕ) (cells : List CellValue) → o.sight ≡ view number cells → Fixed start (step told ∷ h) (place t) number × (cells ≡ snapshot start h number) × (number ≤ last_made start.number h)
+  told_number cell asks number cells saw =
       let x = quiet start (step told) h refl refl in
       let sees = subst (Sees start h t) saw seat.sees in
       let on : opened_as (place t) h ≡ Some number = ⊎_elim (λ a. absurd (not_same_request opening (getting cell) t.asks a.0 (seat.requests ∙ asks) (λ e. let z : ◌≡◌ {A = ℕ} 0 1 = cc in omega arith))) (λ b. b.1) sees.opens in
-      (fixed_stays bound start (step told) h x (place t) number (record { opened-on = on; makes-next = inl sees.makes_none; since_start = sees.since_start; till_now = sees.till_now }), sees.is_snapshot, sees.till_now)
+      (fixed_stays bound start (step told) h x (place t) number (record { opened_on = on; makes_next = inl sees.makes_none; since_start = sees.since_start; till_now = sees.till_now }), sees.is_snapshot, sees.till_now)
 
   not_opening : (r : Request) → o.request ≡ Some r → (opening ≡ r → ⊥) → t.asks ≡ Some opening → ⊥
   not_opening r asks apart e = not_same_request opening r t.asks e (seat.requests ∙ asks) apart
@@ -147,50 +147,50 @@ module _ (bound : ℕ) (start : Start) (h : History) (m : Meaning) (tied : Tied 
   not_ending : (r : Request) → o.request ≡ Some r → (ending ≡ r → ⊥) → t.asks ≡ Some ending → ⊥
   not_ending r asks apart e = not_same_request ending r t.asks e (seat.requests ∙ asks) apart
 
-  none-asked : ◌≡◌ {A = Option Request} None (Some opening) → ⊥
-  none-asked e = let z : ◌≡◌ {A = ℕ} 0 1 = cc in omega arith
+  none_asked : ◌≡◌ {A = Option Request} None (Some opening) → ⊥
+  none_asked e = let z : ◌≡◌ {A = ℕ} 0 1 = cc in omega arith
 
-  pub tied-told : (cell : ℕ) → o.request ≡ Some (getting cell) → (number : ℕ) (cells : List CellValue) → o.sight ≡ view number cells → (owed : ℕ) → owed < o.owed → (w : ℕ → Bool) → Tied bound start (step told ∷ h) (with_seat m s (onward o None o.sight o.writes owed) w)
-  tied-told cell asks number cells saw owed fewer w =
+  pub tied_told : (cell : ℕ) → o.request ≡ Some (getting cell) → (number : ℕ) (cells : List CellValue) → o.sight ≡ view number cells → (owed : ℕ) → owed < o.owed → (w : ℕ → Bool) → Tied bound start (step told ∷ h) (with_seat m s (onward o None o.sight o.writes owed) w)
+  tied_told cell asks number cells saw owed fewer w =
       let x = quiet start (step told) h refl refl in
       let part = onward o None o.sight o.writes owed in
-      let sees = view_stays start (step told) h t None t.puts o.sight x (number-quiet opened_number (place t) (step told) h refl) (number-quiet made_number (place t) (step told) h refl) (not_opening (getting cell) asks (λ e. let z : ◌≡◌ {A = ℕ} 0 1 = cc in omega arith)) (not_ending (getting cell) asks (λ e. let z : ◌≡◌ {A = ℕ} 0 1 = cc in omega arith)) none-asked seat.sees in
+      let sees = view_stays start (step told) h t None t.puts o.sight x (number_quiet opened_number (place t) (step told) h refl) (number_quiet made_number (place t) (step told) h refl) (not_opening (getting cell) asks (λ e. let z : ◌≡◌ {A = ℕ} 0 1 = cc in omega arith)) (not_ending (getting cell) asks (λ e. let z : ◌≡◌ {A = ℕ} 0 1 = cc in omega arith)) none_asked seat.sees in
       grown bound start (step told) h m (with_seat m s part w) part tied
-      (quiet-grown bound start (step told) h m (with_seat m s part w) part tied refl refl refl refl (subst (λ u. PartTied bound start (step told ∷ h) s u part) (sym (now_at told)) (own_tied told None t.puts o.writes o.sight owed refl x.last fewer seat.writes sees)) (few-after told refl (omega arith)) (λ u _ is-u. subst (λ (v : Transaction). (n : ℕ) × Fixed start (step told ∷ h) (place v) n) (same-one (sym is ∙ is-u)) (number, (told-number cell asks number cells saw).0)))
+      (quiet_grown bound start (step told) h m (with_seat m s part w) part tied refl refl refl refl (subst (λ u. PartTied bound start (step told ∷ h) s u part) (sym (now_at told)) (own_tied told None t.puts o.writes o.sight owed refl x.last fewer seat.writes sees)) (few_after told refl (omega arith)) (λ u _ is-u. subst (λ (v : Transaction). (n : ℕ) × Fixed start (step told ∷ h) (place v) n) (same_one (sym is ∙ is-u)) (number, (told_number cell asks number cells saw).0)))
       refl within
     where
-      same-one : {u : Transaction} → Some t ≡ Some u → t ≡ u
-      same-one {u} e = cc
+      same_one : {u : Transaction} → Some t ≡ Some u → t ≡ u
+      same_one {u} e = cc
 
   -- what was told is what the replay works out
   pub told_is_worked : (cell : ℕ) → o.request ≡ Some (getting cell) → (number : ℕ) (cells : List CellValue) → o.sight ≡ view number cells → tells o cells cell ≡ worked_answer start (step told ∷ h) told (current s h)
   told_is_worked cell asks number cells saw =
       let x = quiet start (step told) h refl refl in
-      let fact = told-number cell asks number cells saw in
-      let same-snapshot : snapshot start (step told ∷ h) (base (step told ∷ h) t) ≡ cells = ap (snapshot start (step told ∷ h)) (told-base bound start (step told) h x t number fact.0) ∙ x.snapshots number fact.2 ∙ sym fact.1 in
+      let fact = told_number cell asks number cells saw in
+      let same-snapshot : snapshot start (step told ∷ h) (base (step told ∷ h) t) ≡ cells = ap (snapshot start (step told ∷ h)) (told_base bound start (step told) h x t number fact.0) ∙ x.snapshots number fact.2 ∙ sym fact.1 in
       let own : written cell o.writes ≡ written cell t.puts = ap (written cell) seat.writes ∙ write_set-written cell t.puts in
       (λ i. unwrap_or (own i) (get_or (sym same-snapshot i) cell 0)) ∙ ap (worked_get start (step told ∷ h) t) (sym (seat.requests ∙ asks)) ∙ ap (worked_told start (step told ∷ h)) (sym is)
 
   -- put
-  pub tied-put : (p : Write) → o.request ≡ Some (putting p) → (owed : ℕ) → owed < o.owed → (w : ℕ → Bool) → Tied bound start (step put ∷ h) (with_seat m s (onward o None o.sight (with_put p o.writes) owed) w)
-  tied-put p asks owed fewer w =
+  pub tied_put : (p : Write) → o.request ≡ Some (putting p) → (owed : ℕ) → owed < o.owed → (w : ℕ → Bool) → Tied bound start (step put ∷ h) (with_seat m s (onward o None o.sight (with_put p o.writes) owed) w)
+  tied_put p asks owed fewer w =
       let x = quiet start (step put) h refl refl in
       let part = onward o None o.sight (with_put p o.writes) owed in
       let now-puts : with_asked t.asks t.puts ≡ p ∷ t.puts = ap (λ (r : Option Request). with_asked r t.puts) (seat.requests ∙ asks) in
       let now-t : current s (step put ∷ h) ≡ Some (Next None (p ∷ t.puts)) = now_at put ∙ ap (λ (ps : List Write). Some (Next None ps)) now-puts in
-      let sees = view_stays start (step put) h t None (p ∷ t.puts) o.sight x (number-quiet opened_number (place t) (step put) h refl) (number-quiet made_number (place t) (step put) h refl) (not_opening (putting p) asks (λ e. let z : ◌≡◌ {A = ℕ} 0 1 = cc in omega arith)) (not_ending (putting p) asks (λ e. let z : ◌≡◌ {A = ℕ} 0 1 = cc in omega arith)) none-asked seat.sees in
+      let sees = view_stays start (step put) h t None (p ∷ t.puts) o.sight x (number_quiet opened_number (place t) (step put) h refl) (number_quiet made_number (place t) (step put) h refl) (not_opening (putting p) asks (λ e. let z : ◌≡◌ {A = ℕ} 0 1 = cc in omega arith)) (not_ending (putting p) asks (λ e. let z : ◌≡◌ {A = ℕ} 0 1 = cc in omega arith)) none_asked seat.sees in
       grown bound start (step put) h m (with_seat m s part w) part tied
-      (quiet-grown bound start (step put) h m (with_seat m s part w) part tied refl refl refl refl (subst (λ u. PartTied bound start (step put ∷ h) s u part) (sym now-t) (own_tied put None (p ∷ t.puts) (with_put p o.writes) o.sight owed refl x.last fewer (ap (with_put p) seat.writes) sees)) (few-after put refl (omega arith)) (λ u tells _. absurd (not_told tells)))
+      (quiet_grown bound start (step put) h m (with_seat m s part w) part tied refl refl refl refl (subst (λ u. PartTied bound start (step put ∷ h) s u part) (sym now-t) (own_tied put None (p ∷ t.puts) (with_put p o.writes) o.sight owed refl x.last fewer (ap (with_put p) seat.writes) sees)) (few_after put refl (omega arith)) (λ u tells _. absurd (not_told tells)))
       refl within
     where
       not_told : put ≡ told → ⊥
       not_told e = let z : ◌≡◌ {A = ℕ} 0 1 = cc in omega arith
 
   -- ended
-  pub tied-ended : 0 < o.owed → (w : ℕ → Bool) → Tied bound start (step ended ∷ h) (with_seat m s None w)
-  tied-ended some w =
+  pub tied_ended : 0 < o.owed → (w : ℕ → Bool) → Tied bound start (step ended ∷ h) (with_seat m s None w)
+  tied_ended some w =
       grown bound start (step ended) h m (with_seat m s None w) None tied
-      (quiet-grown bound start (step ended) h m (with_seat m s None w) None tied refl refl refl refl (subst (λ u. PartTied bound start (step ended ∷ h) s u None) (sym (now_at ended)) tt) (few-after ended refl some) (λ u tells _. absurd (not_told tells)))
+      (quiet_grown bound start (step ended) h m (with_seat m s None w) None tied refl refl refl refl (subst (λ u. PartTied bound start (step ended ∷ h) s u None) (sym (now_at ended)) tt) (few_after ended refl some) (λ u tells _. absurd (not_told tells)))
       refl within
     where
       not_told : ended ≡ told → ⊥
@@ -198,30 +198,30 @@ module _ (bound : ℕ) (start : Start) (h : History) (m : Meaning) (tied : Tied 
 
   -- opened: the view that the seat has, or the latest cells
   record OpensOn (number : ℕ) (cells : List CellValue) : Type 0 where
-    opened-none : opened_as (place t) h ≡ None
+    opened_none : opened_as (place t) h ≡ None
     makes_none : made_as (place t) h ≡ None
     is_snapshot : cells ≡ snapshot start h number
     since_opening : last_made start.number t.before ≤ number
     since_start : start.number ≤ number
     till_now : number ≤ last_made start.number h
 
-  opens-on : o.request ≡ Some opening → (number : ℕ) (cells : List CellValue) → MaySee m o (view number cells) → OpensOn number cells
-  opens-on asks number cells (inl same) =
+  opens_on : o.request ≡ Some opening → (number : ℕ) (cells : List CellValue) → MaySee m o (view number cells) → OpensOn number cells
+  opens_on asks number cells (inl same) =
       let sees = subst (Sees start h t) (sym same) seat.sees in
       record {
-        opened-none = ⊎_elim (λ a. a.1) (λ b. absurd (b.0 (seat.requests ∙ asks))) sees.opens;
+        opened_none = ⊎_elim (λ a. a.1) (λ b. absurd (b.0 (seat.requests ∙ asks))) sees.opens;
         makes_none = sees.makes_none;
         is_snapshot = sees.is_snapshot;
         since_opening = sees.since_opening;
         since_start = sees.since_start;
         till_now = sees.till_now;
       }
-  opens-on asks number cells (inr (_, none, latest)) =
+  opens_on asks number cells (inr (_, none, latest)) =
       let sees = subst (Sees start h t) none seat.sees in
       let n-is : number ≡ m.number = same_number latest in
-      let c-is : cells ≡ m.cells = same-cells latest in
+      let c-is : cells ≡ m.cells = same_cells latest in
       record {
-        opened-none = sees.opened-none;
+        opened_none = sees.opened_none;
         makes_none = sees.makes_none;
         is_snapshot = c-is ∙ tied.cells ∙ ap (snapshot start h) (sym (n-is ∙ last_is));
         since_opening = omega (arith, seat.begun, last_is, n-is);
@@ -232,18 +232,18 @@ module _ (bound : ℕ) (start : Start) (h : History) (m : Meaning) (tied : Tied 
       same_number : view number cells ≡ view m.number m.cells → number ≡ m.number
       same_number e = cc
 
-      same-cells : view number cells ≡ view m.number m.cells → cells ≡ m.cells
-      same-cells e = cc
+      same_cells : view number cells ≡ view m.number m.cells → cells ≡ m.cells
+      same_cells e = cc
 
   pub tied_opened : o.request ≡ Some opening → (number : ℕ) (cells : List CellValue) → MaySee m o (view number cells) → (owed : ℕ) → owed < o.owed → (w : ℕ → Bool) → Tied bound start (step (opened number) ∷ h) (with_seat m s (onward o None (view number cells) o.writes owed) w)
   tied_opened asks number cells may owed fewer w =
       let e = step (opened number) in
-      let on = opens-on asks number cells may in
-      let x = opening_event start e h t is on.opened-none refl in
+      let on = opens_on asks number cells may in
+      let x = opening_event start e h t is on.opened_none refl in
       let part = onward o None (view number cells) o.writes owed in
       let sees : Sees start (e ∷ h) (Next None t.puts) (view number cells) = record {
-        opens = inr (none-asked, number_given opened_number e h t number refl is);
-        makes_none = number-quiet made_number (place t) e h refl ∙ on.makes_none;
+        opens = inr (none_asked, number_given opened_number e h t number refl is);
+        makes_none = number_quiet made_number (place t) e h refl ∙ on.makes_none;
         is_snapshot = on.is_snapshot ∙ sym (x.snapshots number on.till_now);
         since_opening = on.since_opening;
         since_start = on.since_start;
@@ -256,22 +256,22 @@ module _ (bound : ℕ) (start : Start) (h : History) (m : Meaning) (tied : Tied 
         rising = tied.rising ∙ ap (λ (n : ℕ). start.number + n) (omega arith);
         cells = tied.cells ∙ sym (x.snapshots (last_made start.number h) (omega arith));
         own_seat = subst (λ u. PartTied bound start (e ∷ h) s u part) (sym (now_at (opened number))) (own_tied (opened number) None t.puts o.writes (view number cells) owed refl x.last fewer seat.writes sees);
-        own-steps = few-after (opened number) refl (omega arith);
+        own_steps = few_after (opened number) refl (omega arith);
         new_told = λ u tells _. absurd (not_told tells);
         new_made = λ p makes. absurd (no_number p makes);
-        new_opened = λ u v opens is-u. subst (λ (y : Transaction). (last_made start.number y.before ≤ v) × (v ≤ last_made start.number h)) (same-one (sym is ∙ is-u)) (subst (λ (n : ℕ). (last_made start.number t.before ≤ n) × (n ≤ last_made start.number h)) (same_some (Some number) number v refl opens) (on.since_opening, on.till_now));
+        new_opened = λ u v opens is-u. subst (λ (y : Transaction). (last_made start.number y.before ≤ v) × (v ≤ last_made start.number h)) (same_one (sym is ∙ is-u)) (subst (λ (n : ℕ). (last_made start.number t.before ≤ n) × (n ≤ last_made start.number h)) (same_some (Some number) number v refl opens) (on.since_opening, on.till_now));
       })
       refl within
     where
       not_told : opened number ≡ told → ⊥
       not_told e = let z : ◌≡◌ {A = ℕ} 0 1 = cc in omega arith
 
-      same-one : {u : Transaction} → Some t ≡ Some u → t ≡ u
-      same-one {u} e = cc
+      same_one : {u : Transaction} → Some t ≡ Some u → t ≡ u
+      same_one {u} e = cc
 
   -- made
-  pub tied-made : o.request ≡ Some ending → (cells : List CellValue) → o.sight ≡ view m.number cells → (owed : ℕ) → owed < o.owed → (w : ℕ → Bool) → Tied bound start (step (made (m.number + 1)) ∷ h) (committed m s o owed w)
-  tied-made asks cells saw owed fewer w =
+  pub tied_made : o.request ≡ Some ending → (cells : List CellValue) → o.sight ≡ view m.number cells → (owed : ℕ) → owed < o.owed → (w : ℕ → Bool) → Tied bound start (step (made (m.number + 1)) ∷ h) (committed m s o owed w)
+  tied_made asks cells saw owed fewer w =
       let e = step (made (m.number + 1)) in
       let sees = subst (Sees start h t) saw seat.sees in
       let on : opened_as (place t) h ≡ Some m.number = ⊎_elim (λ a. absurd (not_same_request opening ending t.asks a.0 (seat.requests ∙ asks) (λ q. let z : ◌≡◌ {A = ℕ} 0 1 = cc in omega arith))) (λ b. b.1) sees.opens in
@@ -284,10 +284,10 @@ module _ (bound : ℕ) (start : Start) (h : History) (m : Meaning) (tied : Tied 
         writes = seat.writes;
         begun = omega (arith, seat.begun, last_is);
         owes = omega (arith, seat.owes, taken (made (m.number + 1)));
-        sees = record { asks-ending = seat.requests ∙ asks; makes_this = gives };
+        sees = record { asks_ending = seat.requests ∙ asks; makes_this = gives };
       } in
       let new-cells : applied o.writes m.cells ≡ snapshot start (e ∷ h) (m.number + 1) =
-      (λ i. applied (seat.writes i) ((tied.cells ∙ ap (snapshot start h) (sym last_is)) i)) ∙ write_set-applied t.puts (snapshot start h m.number) ∙ ap (λ u. applied (puts_of u) (snapshot start h m.number)) (sym is) ∙ sym (snapshot-made start e h m.number refl sees.since_start) in
+      (λ i. applied (seat.writes i) ((tied.cells ∙ ap (snapshot start h) (sym last_is)) i)) ∙ write_set-applied t.puts (snapshot start h m.number) ∙ ap (λ u. applied (puts_of u) (snapshot start h m.number)) (sym is) ∙ sym (snapshot_made start e h m.number refl sees.since_start) in
       grown bound start e h m (committed m s o owed w) part tied
       (record {
         extension = x;
@@ -295,7 +295,7 @@ module _ (bound : ℕ) (start : Start) (h : History) (m : Meaning) (tied : Tied 
         rising = omega (arith, last_is, tied.rising);
         cells = new-cells;
         own_seat = subst (λ u. PartTied bound start (e ∷ h) s u part) (sym (now_at (made (m.number + 1)))) own;
-        own-steps = few-after (made (m.number + 1)) refl (omega arith);
+        own_steps = few_after (made (m.number + 1)) refl (omega arith);
         new_told = λ u tells _. absurd (not_told tells);
         new_made = λ p makes. (
           t,
@@ -303,8 +303,8 @@ module _ (bound : ℕ) (start : Start) (h : History) (m : Meaning) (tied : Tied 
           subst (λ (n : ℕ). MadeFact start (e ∷ h) h t n) (same_some (Some (m.number + 1)) (m.number + 1) p refl makes) (record {
             counted_from_start = omega (arith, last_is, tied.rising);
             makes_once = gives;
-            view-number = m.number;
-            opened-on = x.opened_stays (place t) m.number on;
+            view_number = m.number;
+            opened_on = x.opened_stays (place t) m.number on;
             follows = refl;
           }),
         );
@@ -316,11 +316,11 @@ module _ (bound : ℕ) (start : Start) (h : History) (m : Meaning) (tied : Tied 
       not_told q = let z : ◌≡◌ {A = ℕ} 0 1 = cc in omega arith
 
   -- what an opened and a made answer keep
-  pub opened-extension : o.request ≡ Some opening → (number : ℕ) (cells : List CellValue) → MaySee m o (view number cells) → Extension start (step (opened number)) h
-  opened-extension asks number cells may = opening_event start (step (opened number)) h t is (opens-on asks number cells may).opened-none refl
+  pub opened_extension : o.request ≡ Some opening → (number : ℕ) (cells : List CellValue) → MaySee m o (view number cells) → Extension start (step (opened number)) h
+  opened_extension asks number cells may = opening_event start (step (opened number)) h t is (opens_on asks number cells may).opened_none refl
 
-  pub made-extension : o.request ≡ Some ending → (cells : List CellValue) → o.sight ≡ view m.number cells → Extension start (step (made (m.number + 1))) h
-  made-extension asks cells saw =
+  pub made_extension : o.request ≡ Some ending → (cells : List CellValue) → o.sight ≡ view m.number cells → Extension start (step (made (m.number + 1))) h
+  made_extension asks cells saw =
       let sees = subst (Sees start h t) saw seat.sees in
       let on : opened_as (place t) h ≡ Some m.number = ⊎_elim (λ a. absurd (not_same_request opening ending t.asks a.0 (seat.requests ∙ asks) (λ q. let z : ◌≡◌ {A = ℕ} 0 1 = cc in omega arith))) (λ b. b.1) sees.opens in
       making_event start (step (made (m.number + 1))) h t m.number is sees.makes_none on refl refl last_is sees.since_start

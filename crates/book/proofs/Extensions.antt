@@ -7,8 +7,8 @@ use Rattle.book.specs.Meaning.{ending, getting, made as made-sight, nothing, Ope
 use Rattle.book.specs.Replays.{base, made_as, number_of, opened_as, runs_on, snapshot, Start, worked_answer, worked_by, worked_get}
 use Rattle.book.specs.Transactions.{current, place, Transaction}
 use Rattle.book.specs.Writes.{CellValue, written}
-use Rattle.book.proofs.Places.{number_given, number_kept, number-quiet, places_apart}
-use Rattle.book.proofs.Snapshots.{snapshot_kept, snapshot-quiet}
+use Rattle.book.proofs.Places.{number_given, number_kept, number_quiet, places_apart}
+use Rattle.book.proofs.Snapshots.{snapshot_kept, snapshot_quiet}
 use Rattle.book.proofs.Tied.{Fixed, MadeFact, Sees, SeatTied, ToldFixed}
 
 pub record Extension (start : Start) (e : Event) (h : History) : Type 0 where
@@ -16,20 +16,20 @@ pub record Extension (start : Start) (e : Event) (h : History) : Type 0 where
   pub snapshots : (p : ℕ) → p ≤ last_made start.number h → snapshot start (e ∷ h) p ≡ snapshot start h p
   pub opened_stays : (o n : ℕ) → opened_as o h ≡ Some n → opened_as o (e ∷ h) ≡ Some n
   pub made_stays : (o n : ℕ) → made_as o h ≡ Some n → made_as o (e ∷ h) ≡ Some n
-  pub made-next : (o w : ℕ) → opened_as o h ≡ Some w → made_as o h ≡ None → (made_as o (e ∷ h) ≡ None) ⊎ (made_as o (e ∷ h) ≡ Some (w + 1))
-  pub others-opened : (s : ℕ) (t : Transaction) → (seat_of e.call ≡ s → ⊥) → current s h ≡ Some t → opened_as (place t) (e ∷ h) ≡ opened_as (place t) h
-  pub others-made : (s : ℕ) (t : Transaction) → (seat_of e.call ≡ s → ⊥) → current s h ≡ Some t → made_as (place t) (e ∷ h) ≡ made_as (place t) h
+  pub made_next : (o w : ℕ) → opened_as o h ≡ Some w → made_as o h ≡ None → (made_as o (e ∷ h) ≡ None) ⊎ (made_as o (e ∷ h) ≡ Some (w + 1))
+  pub others_opened : (s : ℕ) (t : Transaction) → (seat_of e.call ≡ s → ⊥) → current s h ≡ Some t → opened_as (place t) (e ∷ h) ≡ opened_as (place t) h
+  pub others_made : (s : ℕ) (t : Transaction) → (seat_of e.call ≡ s → ⊥) → current s h ≡ Some t → made_as (place t) (e ∷ h) ≡ made_as (place t) h
 
 -- an answer that opens and makes nothing
 pub quiet : (start : Start) (e : Event) (h : History) → opened_number e.hears ≡ None → made_number e.hears ≡ None → Extension start e h
 quiet start e h opens-none makes_none = record {
   last = subst (λ (x : Option ℕ). last_made start.number h ≤ unwrap_or x (last_made start.number h)) (sym makes_none) (omega arith);
-  snapshots = λ p _. snapshot-quiet start e h p makes_none;
-  opened_stays = λ o n is. number-quiet opened_number o e h opens-none ∙ is;
-  made_stays = λ o n is. number-quiet made_number o e h makes_none ∙ is;
-  made-next = λ o w _ none. inl (number-quiet made_number o e h makes_none ∙ none);
-  others-opened = λ s t _ _. number-quiet opened_number (place t) e h opens-none;
-  others-made = λ s t _ _. number-quiet made_number (place t) e h makes_none;
+  snapshots = λ p _. snapshot_quiet start e h p makes_none;
+  opened_stays = λ o n is. number_quiet opened_number o e h opens-none ∙ is;
+  made_stays = λ o n is. number_quiet made_number o e h makes_none ∙ is;
+  made_next = λ o w _ none. inl (number_quiet made_number o e h makes_none ∙ none);
+  others_opened = λ s t _ _. number_quiet opened_number (place t) e h opens-none;
+  others_made = λ s t _ _. number_quiet made_number (place t) e h makes_none;
 }
 
 none_is_no_some : (x : Option ℕ) (n : ℕ) → x ≡ None → x ≡ Some n → ⊥
@@ -47,12 +47,12 @@ given_stays f e h t is none o n some =
 pub opening_event : (start : Start) (e : Event) (h : History) (t : Transaction) → current (seat_of e.call) h ≡ Some t → opened_as (place t) h ≡ None → made_number e.hears ≡ None → Extension start e h
 opening_event start e h t is none makes_none = record {
   last = subst (λ (x : Option ℕ). last_made start.number h ≤ unwrap_or x (last_made start.number h)) (sym makes_none) (omega arith);
-  snapshots = λ p _. snapshot-quiet start e h p makes_none;
+  snapshots = λ p _. snapshot_quiet start e h p makes_none;
   opened_stays = given_stays opened_number e h t is none;
-  made_stays = λ o n is-n. number-quiet made_number o e h makes_none ∙ is-n;
-  made-next = λ o w _ made_none. inl (number-quiet made_number o e h makes_none ∙ made_none);
-  others-opened = λ s u apart is-u. number_kept opened_number (place u) e h t is (places_apart h (seat_of e.call) s t u apart is is-u);
-  others-made = λ s u _ _. number-quiet made_number (place u) e h makes_none;
+  made_stays = λ o n is-n. number_quiet made_number o e h makes_none ∙ is-n;
+  made_next = λ o w _ made_none. inl (number_quiet made_number o e h makes_none ∙ made_none);
+  others_opened = λ s u apart is-u. number_kept opened_number (place u) e h t is (places_apart h (seat_of e.call) s t u apart is is-u);
+  others_made = λ s u _ _. number_quiet made_number (place u) e h makes_none;
 }
 
 -- an answer that makes the number after the last
@@ -60,24 +60,24 @@ pub making_event : (start : Start) (e : Event) (h : History) (t : Transaction) (
 making_event start e h t w is none on opens-none makes last since = record {
   last = subst (λ (x : Option ℕ). last_made start.number h ≤ unwrap_or x (last_made start.number h)) (sym makes) (omega arith);
   snapshots = λ p till. snapshot_kept start e h (w + 1) p makes (omega arith) (omega arith);
-  opened_stays = λ o n is-n. number-quiet opened_number o e h opens-none ∙ is-n;
+  opened_stays = λ o n is-n. number_quiet opened_number o e h opens-none ∙ is-n;
   made_stays = given_stays made_number e h t is none;
-  made-next = λ o v on-v made_none.
+  made_next = λ o v on-v made_none.
       ⊎_elim
       (λ (same : place t ≡ o).
       let vs : v ≡ w = same_some (opened_as o h) v w on-v (ap (λ (x : ℕ). opened_as x h) (sym same) ∙ on) in
       inr (ap (λ (x : ℕ). made_as x (e ∷ h)) (sym same) ∙ number_given made_number e h t (w + 1) makes is ∙ ap (λ (x : ℕ). Some (x + 1)) (sym vs)))
       (λ (apart : place t ≡ o → ⊥). inl (number_kept made_number o e h t is apart ∙ made_none))
       (cases_eq (place t) o);
-  others-opened = λ s u _ _. number-quiet opened_number (place u) e h opens-none;
-  others-made = λ s u apart is-u. number_kept made_number (place u) e h t is (places_apart h (seat_of e.call) s t u apart is is-u);
+  others_opened = λ s u _ _. number_quiet opened_number (place u) e h opens-none;
+  others_made = λ s u apart is-u. number_kept made_number (place u) e h t is (places_apart h (seat_of e.call) s t u apart is is-u);
 }
 
 module _ (bound : ℕ) (start : Start) (e : Event) (h : History) (x : Extension start e h) where
   pub fixed_stays : (o w : ℕ) → Fixed start h o w → Fixed start (e ∷ h) o w
   fixed_stays o w f = record {
-    opened-on = x.opened_stays o w f.opened-on;
-    makes-next = ⊎_elim (λ none. x.made-next o w f.opened-on none) (λ some. inr (x.made_stays o (w + 1) some)) f.makes-next;
+    opened_on = x.opened_stays o w f.opened_on;
+    makes_next = ⊎_elim (λ none. x.made_next o w f.opened_on none) (λ some. inr (x.made_stays o (w + 1) some)) f.makes_next;
     since_start = f.since_start;
     till_now = omega (arith, f.till_now, x.last);
   }
@@ -86,14 +86,14 @@ module _ (bound : ℕ) (start : Start) (e : Event) (h : History) (x : Extension 
   made_fact_stays old t p f = record {
     counted_from_start = f.counted_from_start;
     makes_once = x.made_stays (place t) p f.makes_once;
-    view-number = f.view-number;
-    opened-on = x.opened_stays (place t) f.view-number f.opened-on;
+    view_number = f.view_number;
+    opened_on = x.opened_stays (place t) f.view_number f.opened_on;
     follows = f.follows;
   }
 
   -- a transaction whose numbers and request stay sees what it saw
   pub sees_stays : (t : Transaction) (sight : Sight) → opened_as (place t) (e ∷ h) ≡ opened_as (place t) h → made_as (place t) (e ∷ h) ≡ made_as (place t) h → Sees start h t sight → Sees start (e ∷ h) t sight
-  sees_stays t nothing on mn s = record { asks-opening = s.asks-opening; opened-none = on ∙ s.opened-none; makes_none = mn ∙ s.makes_none }
+  sees_stays t nothing on mn s = record { asks_opening = s.asks_opening; opened_none = on ∙ s.opened_none; makes_none = mn ∙ s.makes_none }
   sees_stays t (view v cells) on mn s = record {
     opens = ⊎_elim (λ a. inl (a.0, on ∙ a.1)) (λ b. inr (b.0, on ∙ b.1)) s.opens;
     makes_none = mn ∙ s.makes_none;
@@ -102,7 +102,7 @@ module _ (bound : ℕ) (start : Start) (e : Event) (h : History) (x : Extension 
     since_start = s.since_start;
     till_now = omega (arith, s.till_now, x.last);
   }
-  sees_stays t (made-sight p) on mn s = record { asks-ending = s.asks-ending; makes_this = mn ∙ s.makes_this }
+  sees_stays t (made-sight p) on mn s = record { asks_ending = s.asks_ending; makes_this = mn ∙ s.makes_this }
 
   -- a seat that the event is not on
   pub seat_stays : (s : ℕ) (t : Transaction) (o : Open) → (seat_of e.call ≡ s → ⊥) → eqb (seat_of e.call) s ≡ false → current s h ≡ Some t → SeatTied bound start h s t o → SeatTied bound start (e ∷ h) s t o
@@ -112,16 +112,16 @@ module _ (bound : ℕ) (start : Start) (e : Event) (h : History) (x : Extension 
     writes = tied.writes;
     begun = omega (arith, tied.begun, x.last);
     owes = subst (λ (n : ℕ). o.owed + n ≤ bound) (sym (cond-false (eqb (seat_of e.call) s) _ (steps_taken s h) off)) tied.owes;
-    sees = sees_stays t o.sight (x.others-opened s t apart is) (x.others-made s t apart is) tied.sees;
+    sees = sees_stays t o.sight (x.others_opened s t apart is) (x.others_made s t apart is) tied.sees;
   }
 
   -- what was worked out stays
   base_of : (g : History) (t : Transaction) (w : ℕ) → Fixed start g (place t) w → base g t ≡ w
   base_of g t w f =
       ⊎_elim
-      (λ none. (λ i. runs_on (none i) (f.opened-on i)))
-      (λ some. (λ i. runs_on (some i) (f.opened-on i)) ∙ omega arith)
-      f.makes-next
+      (λ none. (λ i. runs_on (none i) (f.opened_on i)))
+      (λ some. (λ i. runs_on (some i) (f.opened_on i)) ∙ omega arith)
+      f.makes_next
 
   worked_get_stays : (t : Transaction) (r : Option Request) (w : ℕ) → Fixed start h (place t) w → worked_get start (e ∷ h) t r ≡ worked_get start h t r
   worked_get_stays t None w f = refl
@@ -152,5 +152,5 @@ module _ (bound : ℕ) (start : Start) (e : Event) (h : History) (x : Extension 
       (λ i. rest i ++ (this i ∷ []))
 
   -- the number that a transaction of which something was told runs on
-  pub told-base : (t : Transaction) (w : ℕ) → Fixed start (e ∷ h) (place t) w → base (e ∷ h) t ≡ w
-  told-base t w f = base_of (e ∷ h) t w f
+  pub told_base : (t : Transaction) (w : ℕ) → Fixed start (e ∷ h) (place t) w → base (e ∷ h) t ≡ w
+  told_base t w f = base_of (e ∷ h) t w f

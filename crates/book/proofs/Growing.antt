@@ -20,7 +20,7 @@ pub record Grown (bound : ℕ) (start : Start) (e : Event) (h : History) (m' : M
   pub rising : last_made start.number (e ∷ h) ≡ start.number + made_count (e ∷ h)
   pub cells : m'.cells ≡ snapshot start (e ∷ h) (last_made start.number (e ∷ h))
   pub own_seat : PartTied bound start (e ∷ h) s (current s (e ∷ h)) part
-  pub own-steps : steps_taken s (e ∷ h) ≤ bound
+  pub own_steps : steps_taken s (e ∷ h) ≤ bound
   pub new_told : (t : Transaction) → e.hears ≡ told → current s h ≡ Some t → (w : ℕ) × Fixed start (e ∷ h) (place t) w
   pub new_made : (p : ℕ) → made_number e.hears ≡ Some p → (t : Transaction) × (current s h ≡ Some t) × MadeFact start (e ∷ h) h t p
   pub new_opened : (t : Transaction) (v : ℕ) → opened_number e.hears ≡ Some v → current s h ≡ Some t → (last_made start.number t.before ≤ v) × (v ≤ last_made start.number h)
@@ -57,14 +57,14 @@ module _ (bound : ℕ) (start : Start) (e : Event) (h : History) (m m' : Meaning
   few : Grown bound start e h m' (seat_of e.call) part → (k s : ℕ) → steps_taken s (drop k (e ∷ h)) ≤ bound
   few g zero s =
       ⊎_elim
-      (λ (on : eqb (seat_of e.call) s ≡ true). subst (λ (r : ℕ). steps_taken r (e ∷ h) ≤ bound) (eqb-true (seat_of e.call) s on) g.own-steps)
-      (λ (off : eqb (seat_of e.call) s ≡ false). subst (λ (n : ℕ). n ≤ bound) (sym (cond-false (eqb (seat_of e.call) s) _ (steps_taken s h) off)) (tied.few-steps 0 s))
+      (λ (on : eqb (seat_of e.call) s ≡ true). subst (λ (r : ℕ). steps_taken r (e ∷ h) ≤ bound) (eqb-true (seat_of e.call) s on) g.own_steps)
+      (λ (off : eqb (seat_of e.call) s ≡ false). subst (λ (n : ℕ). n ≤ bound) (sym (cond-false (eqb (seat_of e.call) s) _ (steps_taken s h) off)) (tied.few_steps 0 s))
       (cases_Bool (eqb (seat_of e.call) s))
-  few g (suc k) s = tied.few-steps k s
+  few g (suc k) s = tied.few_steps k s
 
   -- given the parts of all seats afterwards
-  pub grown-by : Grown bound start e h m' (seat_of e.call) part → length m'.seats ≡ seat_count → seat_part m' (seat_of e.call) ≡ part → ((r : ℕ) → (r ≡ seat_of e.call → ⊥) → seat_part m' r ≡ seat_part m r) → Tied bound start (e ∷ h) m'
-  grown-by g size own others = record {
+  pub grown_by : Grown bound start e h m' (seat_of e.call) part → length m'.seats ≡ seat_count → seat_part m' (seat_of e.call) ≡ part → ((r : ℕ) → (r ≡ seat_of e.call → ⊥) → seat_part m' r ≡ seat_part m r) → Tied bound start (e ∷ h) m'
+  grown_by g size own others = record {
     number = g.number;
     rising = g.rising;
     cells = g.cells;
@@ -73,12 +73,12 @@ module _ (bound : ℕ) (start : Start) (e : Event) (h : History) (m m' : Meaning
     told_fixed = tolds g;
     made_facts = mades g;
     opened_facts = openeds g;
-    few-steps = few g;
+    few_steps = few g;
   }
 
   -- given that one seat of the book has another part
   pub grown : Grown bound start e h m' (seat_of e.call) part → m'.seats ≡ set m.seats (seat_of e.call) part → seat_of e.call < seat_count → Tied bound start (e ∷ h) m'
   grown g effect within =
-      grown-by g (ap length effect ∙ length-set m.seats (seat_of e.call) part ∙ tied.size)
+      grown_by g (ap length effect ∙ length-set m.seats (seat_of e.call) part ∙ tied.size)
       (ap (λ (l : List (Option Open)). get_or l (seat_of e.call) None) effect ∙ get_or-set_same m.seats (seat_of e.call) part None (omega (arith, tied.size)))
       (λ r apart. ap (λ (l : List (Option Open)). get_or l r None) effect ∙ get_or-set_other m.seats (seat_of e.call) r part None apart)

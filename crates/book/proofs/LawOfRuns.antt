@@ -36,10 +36,10 @@ tied_at_start bound m free = record {
   cells = ap (snapshot_after (start_of m) []) (none_after m.number);
   size = free.size;
   seats = λ s. subst (PartTied bound (start_of m) [] s None) (sym (nobody s)) tt;
-  told_fixed = λ e old t happens. absurd (nothing-happens happens);
-  made_facts = λ e old p happens. absurd (nothing-happens happens);
-  opened_facts = λ e old t v happens. absurd (nothing-happens happens);
-  few-steps = λ k s. subst (λ (h : History). steps_taken s h ≤ bound) (sym (nothing_left k)) (omega arith);
+  told_fixed = λ e old t happens. absurd (nothing_happens happens);
+  made_facts = λ e old p happens. absurd (nothing_happens happens);
+  opened_facts = λ e old t v happens. absurd (nothing_happens happens);
+  few_steps = λ k s. subst (λ (h : History). steps_taken s h ≤ bound) (sym (nothing_left k)) (omega arith);
 }
   where
     none_after : (n : ℕ) → 0 ≡ n - n
@@ -52,8 +52,8 @@ tied_at_start bound m free = record {
     nothing_left zero = refl
     nothing_left (suc k) = refl
 
-    nothing-happens : {e : Event} {old : History} → Happens [] e old → ⊥
-    nothing-happens happens = elim happens [ ]
+    nothing_happens : {e : Event} {old : History} → Happens [] e old → ⊥
+    nothing_happens happens = elim happens [ ]
 
 -- what a run keeps
 pub record RunTied (bound : ℕ) (m0 : Meaning) (cs : List Call) (as' : List Answer) (m : Meaning) : Type 0 where
@@ -61,10 +61,10 @@ pub record RunTied (bound : ℕ) (m0 : Meaning) (cs : List Call) (as' : List Ans
   pub tied : Tied bound (start_of m0) (history_of cs as') m
   pub account : map told_value as' ≡ worked_by (start_of m0) (history_of cs as') (history_of cs as')
 
-pub run-tied : (bound : ℕ) (m0 : Meaning) (cs : List Call) (as' : List Answer) (m : Meaning) → AllFree m0 → Run bound m0 cs as' m → RunTied bound m0 cs as' m
-run-tied bound m0 _ _ _ free none = record { lengths = refl; tied = tied_at_start bound m0 free; account = refl }
-run-tied bound m0 _ _ _ free (more cs as' m run call answer m' does) =
-    let before = run-tied bound m0 cs as' m free run in
+pub run_tied : (bound : ℕ) (m0 : Meaning) (cs : List Call) (as' : List Answer) (m : Meaning) → AllFree m0 → Run bound m0 cs as' m → RunTied bound m0 cs as' m
+run_tied bound m0 _ _ _ free none = record { lengths = refl; tied = tied_at_start bound m0 free; account = refl }
+run_tied bound m0 _ _ _ free (more cs as' m run call answer m' does) =
+    let before = run_tied bound m0 cs as' m free run in
     let h = history_of cs as' in
     let kept = call_kept bound (start_of m0) h m before.tied call answer m' does in
     let now-h : history_of (cs ++ (call ∷ [])) (as' ++ (answer ∷ [])) ≡ record { call = call; hears = heard answer } ∷ h = history_push [] cs as' call answer before.lengths in
@@ -76,25 +76,25 @@ run-tied bound m0 _ _ _ free (more cs as' m run call answer m' does) =
     }
 
 -- a made answer counts among those before any later one
-made-before : (h : History) (e : Event) (old : History) (p : ℕ) → Happens h e old → made_number e.hears ≡ Some p → made_count old < made_count h
-made-before _ e old p (newest _ _) makes = subst (λ (x : Option ℕ). made_count old < one_if_made x + made_count old) (sym makes) (omega arith)
-made-before _ e old p (earlier x h _ _ happens) makes = omega (arith, made-before h e old p happens makes)
+made_before : (h : History) (e : Event) (old : History) (p : ℕ) → Happens h e old → made_number e.hears ≡ Some p → made_count old < made_count h
+made_before _ e old p (newest _ _) makes = subst (λ (x : Option ℕ). made_count old < one_if_made x + made_count old) (sym makes) (omega arith)
+made_before _ e old p (earlier x h _ _ happens) makes = omega (arith, made_before h e old p happens makes)
 
 -- made answers with as many before them are one
-one-made : (h : History) (e f : Event) (old older : History) (p q : ℕ) → Happens h e old → Happens h f older → made_number e.hears ≡ Some p → made_number f.hears ≡ Some q → made_count old ≡ made_count older → (e ≡ f) × (old ≡ older)
-one-made _ _ _ _ _ p q (newest e old) (newest _ _) makes-p makes-q same = (refl, refl)
-one-made _ _ f _ older p q (newest e old) (earlier _ _ _ _ happens) makes-p makes-q same = absurd (omega (arith, made-before old f older q happens makes-q))
-one-made _ e _ old _ p q (earlier _ _ _ _ happens) (newest f older) makes-p makes-q same = absurd (omega (arith, made-before older e old p happens makes-p))
-one-made _ e f old older p q (earlier x h _ _ first) (earlier _ _ _ _ second) makes-p makes-q same = one-made h e f old older p q first second makes-p makes-q same
+one_made : (h : History) (e f : Event) (old older : History) (p q : ℕ) → Happens h e old → Happens h f older → made_number e.hears ≡ Some p → made_number f.hears ≡ Some q → made_count old ≡ made_count older → (e ≡ f) × (old ≡ older)
+one_made _ _ _ _ _ p q (newest e old) (newest _ _) makes-p makes-q same = (refl, refl)
+one_made _ _ f _ older p q (newest e old) (earlier _ _ _ _ happens) makes-p makes-q same = absurd (omega (arith, made_before old f older q happens makes-q))
+one_made _ e _ old _ p q (earlier _ _ _ _ happens) (newest f older) makes-p makes-q same = absurd (omega (arith, made_before older e old p happens makes-p))
+one_made _ e f old older p q (earlier x h _ _ first) (earlier _ _ _ _ second) makes-p makes-q same = one_made h e f old older p q first second makes-p makes-q same
 
 module _ (bound : ℕ) (start : Start) (h : History) (m : Meaning) (tied : Tied bound start h m) where
-  same-one : (t u : Transaction) → Some t ≡ Some u → t ≡ u
-  same-one t u e = cc
+  same_one : (t u : Transaction) → Some t ≡ Some u → t ≡ u
+  same_one t u e = cc
 
   made_fact : (e : Event) (old : History) (t : Transaction) (p : ℕ) → AnswersTo h e old t → made_number e.hears ≡ Some p → MadeFact start h old t p
   made_fact e old t p to makes =
       let found = tied.made_facts e old p to.happens makes in
-      subst (λ (u : Transaction). MadeFact start h old u p) (same-one found.0 t (sym found.1 ∙ to.belongs)) found.2
+      subst (λ (u : Transaction). MadeFact start h old u p) (same_one found.0 t (sym found.1 ∙ to.belongs)) found.2
 
   one_maker : (e f : Event) (old older : History) (t u : Transaction) (p q : ℕ) → AnswersTo h e old t → AnswersTo h f older u → made_number e.hears ≡ Some p → made_number f.hears ≡ Some q → (p ≡ q → place t ≡ place u) × (place t ≡ place u → p ≡ q)
   one_maker e f old older t u p q to-e to-f makes-p makes-q =
@@ -102,9 +102,9 @@ module _ (bound : ℕ) (start : Start) (h : History) (m : Meaning) (tied : Tied 
       let second = made_fact f older u q to-f makes-q in (
         λ same.
             let counts : made_count old ≡ made_count older = omega (arith, first.counted_from_start, second.counted_from_start) in
-            let both = one-made h e f old older p q to-e.happens to-f.happens makes-p makes-q counts in
+            let both = one_made h e f old older p q to-e.happens to-f.happens makes-p makes-q counts in
             let calls_same : current (seat_of e.call) old ≡ current (seat_of f.call) older = (λ i. current (seat_of (both.0 i).call) (both.1 i)) in
-            ap place (same-one t u (sym to-e.belongs ∙ calls_same ∙ to-f.belongs)),
+            ap place (same_one t u (sym to-e.belongs ∙ calls_same ∙ to-f.belongs)),
         λ same. same_some (made_as (place u) h) p q (ap (λ (x : ℕ). made_as x h) (sym same) ∙ first.makes_once) second.makes_once,
       )
 
@@ -114,7 +114,7 @@ module _ (bound : ℕ) (start : Start) (h : History) (m : Meaning) (tied : Tied 
     every_number_has_a_maker = λ e old p happens makes. let fact = tied.made_facts e old p happens makes in (fact.0, record { happens = happens; belongs = fact.1 });
     each_number_has_one_maker = one_maker;
     opened_between_opening_and_answer = λ e old t v to opens. tied.opened_facts e old t v to.happens opens to.belongs;
-    made_number_follows_opened_number = λ e old t p to makes. let fact = made_fact e old t p to makes in (fact.view-number, fact.opened-on, fact.follows);
+    made_number_follows_opened_number = λ e old t p to makes. let fact = made_fact e old t p to makes in (fact.view_number, fact.opened_on, fact.follows);
   }
 
 -- a seat is open in the meaning exactly when it has a transaction, and busy when that has an unanswered request
@@ -140,7 +140,7 @@ wait_waits : (m : Meaning) (s : ℕ) (o : Open) (word : Word) (n : ℕ) (m' : Me
 wait_waits m s o _ _ _ (effects.waits would) e = would
 wait_waits m s o _ _ _ (effects.moves _ _ _ _ _ _) e = let z : ◌≡◌ {A = ℕ} 0 1 = cc in absurd (omega arith)
 wait_waits m s o _ _ _ (effects.opens _ _ _ _ _ _ _ _) e = let z : ◌≡◌ {A = ℕ} 0 1 = cc in absurd (omega arith)
-wait_waits m s o _ _ _ (effects.tells-value _ _ _ _ _ _ _ _ _) e = let z : ◌≡◌ {A = ℕ} 0 1 = cc in absurd (omega arith)
+wait_waits m s o _ _ _ (effects.tells_value _ _ _ _ _ _ _ _ _) e = let z : ◌≡◌ {A = ℕ} 0 1 = cc in absurd (omega arith)
 wait_waits m s o _ _ _ (effects.puts _ _ _ _ _ _) e = let z : ◌≡◌ {A = ℕ} 0 1 = cc in absurd (omega arith)
 wait_waits m s o _ _ _ (effects.makes _ _ _ _ _ _ _ _) e = let z : ◌≡◌ {A = ℕ} 0 1 = cc in absurd (omega arith)
 wait_waits m s o _ _ _ (effects.ends_reader _ _ _ _ _ _ _ _) e = let z : ◌≡◌ {A = ℕ} 0 1 = cc in absurd (omega arith)
@@ -163,14 +163,14 @@ module _ (bound : ℕ) (start : Start) (h : History) (m : Meaning) (tied : Tied 
   busy_in_meaning all r q part =
       let found = open_seat bound start h r (current r h) q (subst (PartTied bound start h r (current r h)) part (tied.seats r)) in
       let busy = all r (ap option_is_some found.1) in
-      let same : busy.0 ≡ found.0 = same-one busy.0 found.0 (sym busy.1 ∙ found.1) in
+      let same : busy.0 ≡ found.0 = same_one busy.0 found.0 (sym busy.1 ∙ found.1) in
       ap option_is_some (sym found.2.requests) ∙ ap (λ (x : Transaction). option_is_some x.asks) (sym same) ∙ busy.2
     where
-      same-one : (t u : Transaction) → Some t ≡ Some u → t ≡ u
-      same-one t u e = cc
+      same_one : (t u : Transaction) → Some t ≡ Some u → t ≡ u
+      same_one t u e = cc
 
-  pub moves-on : SomeBusyMoves m → SomethingMoves bound h m
-  moves-on law = record {
+  pub moves_on : SomeBusyMoves m → SomethingMoves bound h m
+  moves_on law = record {
     some_busy_seat_moves = λ s open' all.
         let here = open_in_meaning s open' in
         let mover = law s here.2.0 here.2.1 (busy_in_meaning all) in
@@ -179,16 +179,16 @@ module _ (bound : ℕ) (start : Start) (h : History) (m : Meaning) (tied : Tied 
           (found.0, found.1, ap option_is_some found.2.requests ∙ mover.3),
           λ answer m' does e. step_goes_on bound m mover.0 mover.4 (calls.Step mover.0) answer m' refl does e,
         );
-    requests_take_few_steps = tied.few-steps;
+    requests_take_few_steps = tied.few_steps;
   }
 
 -- every run on a book that began with all seats free, where some busy seat moves at the end
 pub law_of_runs : (bound : ℕ) (m0 : Meaning) (cs : List Call) (as' : List Answer) (m : Meaning) → AllFree m0 → SomeBusyMoves m → Run bound m0 cs as' m → LawOfRuns bound m0 cs as' m
 law_of_runs bound m0 cs as' m free moves run =
-    let t = run-tied bound m0 cs as' m free run in
+    let t = run_tied bound m0 cs as' m free run in
     let h = history_of cs as' in
     record {
-      account_is_serial_replay = (λ i. record { told_values = t.account i; last-number = t.tied.number i; last-cells = t.tied.cells i });
+      account_is_serial_replay = (λ i. record { told_values = t.account i; last_number = t.tied.number i; last_cells = t.tied.cells i });
       numbers_are_right = numbers bound (start_of m0) h m t.tied;
-      something_moves = moves-on bound (start_of m0) h m t.tied moves;
+      something_moves = moves_on bound (start_of m0) h m t.tied moves;
     }

@@ -12,8 +12,8 @@ use Rattle.book.specs.Transactions.{asking, current, going_on, place, putting_do
 pub current_other : (s : ℕ) (e : Event) (h : History) → eqb (seat_of e.call) s ≡ false → current s (e ∷ h) ≡ current s h
 current_other s e h other = cond-false (eqb (seat_of e.call) s) (going_on e.call e.hears h (current s h)) (current s h) other
 
-pub current-same : (s : ℕ) (e : Event) (h : History) → eqb (seat_of e.call) s ≡ true → current s (e ∷ h) ≡ going_on e.call e.hears h (current s h)
-current-same s e h same = cond-true (eqb (seat_of e.call) s) (going_on e.call e.hears h (current s h)) (current s h) same
+pub current_same : (s : ℕ) (e : Event) (h : History) → eqb (seat_of e.call) s ≡ true → current s (e ∷ h) ≡ going_on e.call e.hears h (current s h)
+current_same s e h same = cond-true (eqb (seat_of e.call) s) (going_on e.call e.hears h (current s h)) (current s h) same
 
 -- a transaction that may be there opened among the first n calls
 abbrev pub Placed : ℕ → Option Transaction → Type 0
@@ -64,26 +64,26 @@ At o None = ⊥
 At o (Some t) = place t ≡ o
 
 -- a seat whose transaction goes on has it at its old place, or it is new
-on-place : (call : Call) (hears : Heard) (old : History) (t : Option Transaction) (o : ℕ) → At o (going_on call hears old t) → At o t ⊎ (o ≡ length old)
-on-place (calls.Open kind seat) accepted old t o a = inr (sym a)
-on-place (calls.Get seat cell) accepted old None o a = absurd a
-on-place (calls.Get seat cell) accepted old (Some t) o a = inl a
-on-place (calls.Put seat cell value) accepted old None o a = absurd a
-on-place (calls.Put seat cell value) accepted old (Some t) o a = inl a
-on-place (calls.End seat) accepted old None o a = absurd a
-on-place (calls.End seat) accepted old (Some t) o a = inl a
-on-place (calls.Step seat) accepted old t o a = inl a
-on-place call declined old t o a = inl a
-on-place call waited old t o a = inl a
-on-place call moved old t o a = inl a
-on-place call (opened n) old None o a = absurd a
-on-place call (opened n) old (Some t) o a = inl a
-on-place call told old None o a = absurd a
-on-place call told old (Some t) o a = inl a
-on-place call put old None o a = absurd a
-on-place call put old (Some t) o a = inl a
-on-place call (made n) old t o a = inl a
-on-place call ended old t o a = absurd a
+on_place : (call : Call) (hears : Heard) (old : History) (t : Option Transaction) (o : ℕ) → At o (going_on call hears old t) → At o t ⊎ (o ≡ length old)
+on_place (calls.Open kind seat) accepted old t o a = inr (sym a)
+on_place (calls.Get seat cell) accepted old None o a = absurd a
+on_place (calls.Get seat cell) accepted old (Some t) o a = inl a
+on_place (calls.Put seat cell value) accepted old None o a = absurd a
+on_place (calls.Put seat cell value) accepted old (Some t) o a = inl a
+on_place (calls.End seat) accepted old None o a = absurd a
+on_place (calls.End seat) accepted old (Some t) o a = inl a
+on_place (calls.Step seat) accepted old t o a = inl a
+on_place call declined old t o a = inl a
+on_place call waited old t o a = inl a
+on_place call moved old t o a = inl a
+on_place call (opened n) old None o a = absurd a
+on_place call (opened n) old (Some t) o a = inl a
+on_place call told old None o a = absurd a
+on_place call told old (Some t) o a = inl a
+on_place call put old None o a = absurd a
+on_place call put old (Some t) o a = inl a
+on_place call (made n) old t o a = inl a
+on_place call ended old t o a = absurd a
 
 placed_below : (n o : ℕ) (t : Option Transaction) → Placed n t → At o t → o < n
 placed_below n o None p a = absurd a
@@ -97,12 +97,12 @@ apart_at (e ∷ old) r s o apart a b =
     (λ (on-r : eqb (seat_of e.call) r ≡ true).
     let off-s : eqb (seat_of e.call) s ≡ false = ne_eqb _ s (λ is. apart (sym (eqb-true _ r on-r) ∙ is)) in
     let b' = subst (At o) (current_other s e old off-s) b in
-    ⊎_elim (λ a'. apart_at old r s o apart a' b') (λ new. omega (arith, placed_below (length old) o (current s old) (current_placed s old) b')) (on-place e.call e.hears old (current r old) o (subst (At o) (current-same r e old on-r) a)))
+    ⊎_elim (λ a'. apart_at old r s o apart a' b') (λ new. omega (arith, placed_below (length old) o (current s old) (current_placed s old) b')) (on_place e.call e.hears old (current r old) o (subst (At o) (current_same r e old on-r) a)))
     (λ (off-r : eqb (seat_of e.call) r ≡ false).
     let a' = subst (At o) (current_other r e old off-r) a in
     ⊎_elim
     (λ (on-s : eqb (seat_of e.call) s ≡ true).
-    ⊎_elim (λ b'. apart_at old r s o apart a' b') (λ new. omega (arith, placed_below (length old) o (current r old) (current_placed r old) a')) (on-place e.call e.hears old (current s old) o (subst (At o) (current-same s e old on-s) b)))
+    ⊎_elim (λ b'. apart_at old r s o apart a' b') (λ new. omega (arith, placed_below (length old) o (current r old) (current_placed r old) a')) (on_place e.call e.hears old (current s old) o (subst (At o) (current_same s e old on-s) b)))
     (λ (off-s : eqb (seat_of e.call) s ≡ false). apart_at old r s o apart a' (subst (At o) (current_other s e old off-s) b))
     (cases_Bool (eqb (seat_of e.call) s)))
     (cases_Bool (eqb (seat_of e.call) r))
@@ -116,19 +116,19 @@ is_place_at : (o : ℕ) (t : Option Transaction) → is_place o t ≡ true → A
 is_place_at o None e = absurd (false≢true e)
 is_place_at o (Some t) e = eqb-true (place t) o e
 
-pub number-fresh : (f : Heard → Option ℕ) (o : ℕ) (h : History) → length h ≤ o → number_of f o h ≡ None
-number-fresh f o [] long = refl
-number-fresh f o (e ∷ old) long =
+pub number_fresh : (f : Heard → Option ℕ) (o : ℕ) (h : History) → length h ≤ o → number_of f o h ≡ None
+number_fresh f o [] long = refl
+number_fresh f o (e ∷ old) long =
     let off : is_place o (current (seat_of e.call) old) ≡ false = ⊎_elim (λ on. absurd (omega (arith, placed_below (length old) o (current (seat_of e.call) old) (current_placed (seat_of e.call) old) (is_place_at o _ on)))) (λ off. off) (cases_Bool (is_place o (current (seat_of e.call) old))) in
-    cond-false (is_place o (current (seat_of e.call) old)) _ _ off ∙ number-fresh f o old (omega arith)
+    cond-false (is_place o (current (seat_of e.call) old)) _ _ off ∙ number_fresh f o old (omega arith)
 
 cond_same : (b : Bool) (x : Option ℕ) → cond b x x ≡ x
 cond_same true x = refl
 cond_same false x = refl
 
 -- an answer without a number leaves them
-pub number-quiet : (f : Heard → Option ℕ) (o : ℕ) (e : Event) (h : History) → f e.hears ≡ None → number_of f o (e ∷ h) ≡ number_of f o h
-number-quiet f o e h quiet =
+pub number_quiet : (f : Heard → Option ℕ) (o : ℕ) (e : Event) (h : History) → f e.hears ≡ None → number_of f o (e ∷ h) ≡ number_of f o h
+number_quiet f o e h quiet =
     ap (λ x. cond (is_place o (current (seat_of e.call) h)) (first_given x (number_of f o h)) (number_of f o h)) quiet ∙ cond_same (is_place o (current (seat_of e.call) h)) (number_of f o h)
 
 -- an answer with a number gives it to its own transaction

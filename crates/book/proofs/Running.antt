@@ -22,8 +22,8 @@ pub rest_more : (as' first : List Answer) (i : ℕ) (a : Answer) → drop i as' 
 rest_more as' first i a same = drop-set-lt (i + 1) as' i a (omega arith) ∙ sym (drop-drop 1 i as') ∙ ap (drop 1) same ∙ drop-drop 1 i first
 
 -- no line of the table of runs holds
-pub run-accepted : (calls answers : ℕ) (m : Meaning) → calls ≤ answers → none_open m.seats ≡ true → run_refusal calls answers m ≡ None
-run-accepted calls answers m room free =
+pub run_accepted : (calls answers : ℕ) (m : Meaning) → calls ≤ answers → none_open m.seats ≡ true → run_refusal calls answers m ≡ None
+run_accepted calls answers m room free =
     cond-false (ltb answers calls) _ _ (le-ltb answers calls room) ∙ cond-false (not (none_open m.seats)) _ _ (ap not free)
 
 pub ran : (bound : ℕ) (m m' : Meaning) (cs : List Call) (before after : List Answer) (i : ℕ) → length cs ≤ i → i ≤ length cs → length m.seats ≡ seat_count → none_open m.seats ≡ true → SomeBusyMoves m' → Run bound m (take i cs) (take i after) m' → drop i after ≡ drop i before → Ran bound m cs before after m'

@@ -15,16 +15,16 @@ after_same start h g zero same = refl
 after_same start h g (suc k) same = (λ i. applied (same (suc k) (omega arith) (omega arith) i) (after_same start h g k (λ j some few. same j some (omega arith)) i))
 
 -- an answer that makes nothing leaves all snapshots
-pub snapshot-quiet : (start : Start) (e : Event) (h : History) (p : ℕ) → made_number e.hears ≡ None → snapshot start (e ∷ h) p ≡ snapshot start h p
-snapshot-quiet start e h p quiet = after_same start h (e ∷ h) (p - start.number) (λ j _ _. puts_made_other (start.number + j) e h (ap (is_number (start.number + j)) quiet))
+pub snapshot_quiet : (start : Start) (e : Event) (h : History) (p : ℕ) → made_number e.hears ≡ None → snapshot start (e ∷ h) p ≡ snapshot start h p
+snapshot_quiet start e h p quiet = after_same start h (e ∷ h) (p - start.number) (λ j _ _. puts_made_other (start.number + j) e h (ap (is_number (start.number + j)) quiet))
 
 -- a commit leaves the snapshots before it
 pub snapshot_kept : (start : Start) (e : Event) (h : History) (q p : ℕ) → made_number e.hears ≡ Some q → start.number < q → p < q → snapshot start (e ∷ h) p ≡ snapshot start h p
 snapshot_kept start e h q p makes late below = after_same start h (e ∷ h) (p - start.number) (λ j some few. puts_made_other (start.number + j) e h (ap (is_number (start.number + j)) makes ∙ ne_eqb q (start.number + j) (λ is. omega arith)))
 
 -- and its own is the one before it with the puts of its writer
-pub snapshot-made : (start : Start) (e : Event) (h : History) (p : ℕ) → made_number e.hears ≡ Some (p + 1) → start.number ≤ p → snapshot start (e ∷ h) (p + 1) ≡ applied (puts_of (current (seat_of e.call) h)) (snapshot start h p)
-snapshot-made start e h p makes late =
+pub snapshot_made : (start : Start) (e : Event) (h : History) (p : ℕ) → made_number e.hears ≡ Some (p + 1) → start.number ≤ p → snapshot start (e ∷ h) (p + 1) ≡ applied (puts_of (current (seat_of e.call) h)) (snapshot start h p)
+snapshot_made start e h p makes late =
     let next : (p + 1) - start.number ≡ suc (p - start.number) = omega arith in
     let is : start.number + suc (p - start.number) ≡ p + 1 = omega arith in
     let own : puts_made (start.number + suc (p - start.number)) (e ∷ h) ≡ puts_of (current (seat_of e.call) h) = cond-true (is_number (start.number + suc (p - start.number)) (made_number e.hears)) _ _ (ap (is_number (start.number + suc (p - start.number))) makes ∙ eq-eqb (p + 1) _ (sym is)) in

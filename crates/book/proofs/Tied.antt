@@ -23,12 +23,12 @@ pub record HasView (start : Start) (h : History) (t : Transaction) (v : ℕ) (ce
   pub till_now : v ≤ last_made start.number h
 
 pub record SeesNothing (h : History) (t : Transaction) : Type 0 where
-  pub asks-opening : t.asks ≡ Some opening
-  pub opened-none : opened_as (place t) h ≡ None
+  pub asks_opening : t.asks ≡ Some opening
+  pub opened_none : opened_as (place t) h ≡ None
   pub makes_none : made_as (place t) h ≡ None
 
 pub record HasMade (h : History) (t : Transaction) (p : ℕ) : Type 0 where
-  pub asks-ending : t.asks ≡ Some ending
+  pub asks_ending : t.asks ≡ Some ending
   pub makes_this : made_as (place t) h ≡ Some p
 
 abbrev pub Sees : Start → History → Transaction → Sight → Type 0
@@ -52,8 +52,8 @@ PartTied bound start h s (Some t) (Some o) = SeatTied bound start h s t o
 
 -- the transaction at the place o opened on w, and what it may have made is the next number
 pub record Fixed (start : Start) (h : History) (o w : ℕ) : Type 0 where
-  pub opened-on : opened_as o h ≡ Some w
-  pub makes-next : (made_as o h ≡ None) ⊎ (made_as o h ≡ Some (w + 1))
+  pub opened_on : opened_as o h ≡ Some w
+  pub makes_next : (made_as o h ≡ None) ⊎ (made_as o h ≡ Some (w + 1))
   pub since_start : start.number ≤ w
   pub till_now : w ≤ last_made start.number h
 
@@ -64,9 +64,9 @@ ToldFixed start h part = (e : Event) (old : History) (t : Transaction) → Happe
 pub record MadeFact (start : Start) (h : History) (old : History) (t : Transaction) (p : ℕ) : Type 0 where
   pub counted_from_start : p ≡ start.number + (made_count old + 1)
   pub makes_once : made_as (place t) h ≡ Some p
-  pub view-number : ℕ
-  pub opened-on : opened_as (place t) h ≡ Some view-number
-  pub follows : p ≡ view-number + 1
+  pub view_number : ℕ
+  pub opened_on : opened_as (place t) h ≡ Some view_number
+  pub follows : p ≡ view_number + 1
 
 -- each made and each opened answer so far
 abbrev pub MadeFacts : Start → History → History → Type 0
@@ -84,4 +84,4 @@ pub record Tied (bound : ℕ) (start : Start) (h : History) (m : Meaning) : Type
   pub told_fixed : ToldFixed start h h
   pub made_facts : MadeFacts start h h
   pub opened_facts : OpenedFacts start h
-  pub few-steps : (k s : ℕ) → steps_taken s (drop k h) ≤ bound
+  pub few_steps : (k s : ℕ) → steps_taken s (drop k h) ≤ bound

@@ -79,11 +79,11 @@ pub front_within : (n i : ℕ) (l : List Write) → i < length (take n l) → i 
 front_within n i l within = omega (arith, length-take n l)
 
 -- what a put comes to, by whether the cell was put
-pub room-found : (cell : ℕ) (ws : List Write) (v : CellValue) → written cell ws ≡ Some v → true ≡ has_room cell ws
-room-found cell ws v found = sym (ap (λ x. is_some x || ltb (length ws) max_writes) found)
+pub room_found : (cell : ℕ) (ws : List Write) (v : CellValue) → written cell ws ≡ Some v → true ≡ has_room cell ws
+room_found cell ws v found = sym (ap (λ x. is_some x || ltb (length ws) max_writes) found)
 
 pub room_new : (cell : ℕ) (ws : List Write) → written cell ws ≡ None → length ws < max_writes → true ≡ has_room cell ws
 room_new cell ws none few = sym (ap (λ x. is_some x || ltb (length ws) max_writes) none ∙ lt-ltb (length ws) max_writes few)
 
-pub room-none : (cell : ℕ) (ws : List Write) → written cell ws ≡ None → max_writes ≤ length ws → false ≡ has_room cell ws
-room-none cell ws none full = sym (ap (λ x. is_some x || ltb (length ws) max_writes) none ∙ le-ltb (length ws) max_writes full)
+pub room_none : (cell : ℕ) (ws : List Write) → written cell ws ≡ None → max_writes ≤ length ws → false ≡ has_room cell ws
+room_none cell ws none full = sym (ap (λ x. is_some x || ltb (length ws) max_writes) none ∙ le-ltb (length ws) max_writes full)

@@ -55,7 +55,7 @@ pub data Steps (m : Meaning) (s : ℕ) (o : Open) : Word → ℕ → Meaning →
   waits : m.waits s ≡ true → Steps m s o words.Wait 0 m
   moves : m.waits s ≡ false → (sight : Sight) → MaySee m o sight → (owed : ℕ) → owed < o.owed → (w : ℕ → Bool) → Steps m s o words.Moved 0 (with_seat m s (onward o o.request sight o.writes owed) w)
   opens : m.waits s ≡ false → o.request ≡ Some opening → (number : ℕ) (cells : List CellValue) → MaySee m o (view number cells) → (owed : ℕ) → owed < o.owed → (w : ℕ → Bool) → Steps m s o words.Opened number (with_seat m s (onward o None (view number cells) o.writes owed) w)
-  tells-value : m.waits s ≡ false → (cell : ℕ) → o.request ≡ Some (getting cell) → (number : ℕ) (cells : List CellValue) → o.sight ≡ view number cells → (owed : ℕ) → owed < o.owed → (w : ℕ → Bool) → Steps m s o words.Told (tells o cells cell) (with_seat m s (onward o None o.sight o.writes owed) w)
+  tells_value : m.waits s ≡ false → (cell : ℕ) → o.request ≡ Some (getting cell) → (number : ℕ) (cells : List CellValue) → o.sight ≡ view number cells → (owed : ℕ) → owed < o.owed → (w : ℕ → Bool) → Steps m s o words.Told (tells o cells cell) (with_seat m s (onward o None o.sight o.writes owed) w)
   puts : m.waits s ≡ false → (put : Write) → o.request ≡ Some (putting put) → (owed : ℕ) → owed < o.owed → (w : ℕ → Bool) → Steps m s o words.Put 0 (with_seat m s (onward o None o.sight (with_put put o.writes) owed) w)
   makes : m.waits s ≡ false → o.request ≡ Some ending → o.kind ≡ Writer → (cells : List CellValue) → o.sight ≡ view m.number cells → (owed : ℕ) → owed < o.owed → (w : ℕ → Bool) → Steps m s o words.Made (m.number + 1) (committed m s o owed w)
   ends_reader : m.waits s ≡ false → o.request ≡ Some ending → o.kind ≡ Reader → (number : ℕ) (cells : List CellValue) → o.sight ≡ view number cells → 0 < o.owed → (w : ℕ → Bool) → Steps m s o words.Ended number (with_seat m s None w)

@@ -34,7 +34,7 @@ start_of m = record { number = m.number; cells = m.cells }
 
 -- what a run told, and the book at its end
 abbrev pub account_of : List Answer → Meaning → Account
-account_of answers m = record { told_values = map told_value answers; last-number = m.number; last-cells = m.cells }
+account_of answers m = record { told_values = map told_value answers; last_number = m.number; last_cells = m.cells }
 
 -- how many made answers there are
 abbrev pub one_if_made : Option ℕ → ℕ

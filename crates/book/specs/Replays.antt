@@ -92,8 +92,8 @@ worked_by start h (e ∷ old) = worked_by start h old ++ (worked_answer start h 
 -- what a replay yields, and what an account is: a value for each call in order, the last number, and its cells
 pub record Account : Type 0 where
   pub told_values : List CellValue
-  pub last-number : ℕ
-  pub last-cells : List CellValue
+  pub last_number : ℕ
+  pub last_cells : List CellValue
 
 abbrev pub replay : Start → History → Account
-replay start h = record { told_values = worked_by start h h; last-number = last_made start.number h; last-cells = snapshot start h (last_made start.number h) }
+replay start h = record { told_values = worked_by start h h; last_number = last_made start.number h; last_cells = snapshot start h (last_made start.number h) }

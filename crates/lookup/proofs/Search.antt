@@ -14,8 +14,8 @@ last_match_push test (y ∷ xs) x = ap (tail_first (test y)) (last_match_push te
     under false = refl
 
 -- what is found among the first i elements, and then among one more
-pub last_match-more : {X : Type 0} (test : X → Bool) (xs : List X) (i : ℕ) (x : X) (b : Bool) (was now : Option ℕ) → i < length xs → x ≡ get_or xs i x → test x ≡ b → now ≡ cond b (Some i) was → was ≡ last_match test (take i xs) → now ≡ last_match test (take (i + 1) xs)
-last_match-more test xs i x b was now within is passes found before =
+pub last_match_more : {X : Type 0} (test : X → Bool) (xs : List X) (i : ℕ) (x : X) (b : Bool) (was now : Option ℕ) → i < length xs → x ≡ get_or xs i x → test x ≡ b → now ≡ cond b (Some i) was → was ≡ last_match test (take i xs) → now ≡ last_match test (take (i + 1) xs)
+last_match_more test xs i x b was now within is passes found before =
     let front = take_more xs i x within ∙ ap (λ y. take i xs ++ (y ∷ [])) (sym is) in
     let long : length (take i xs) ≡ i = length-take-le i xs (omega arith) in
     found ∙ (λ j. cond (sym passes j) (Some (sym long j)) (before j)) ∙ sym (last_match_push test (take i xs) x) ∙ ap (last_match test) (sym front)

@@ -33,8 +33,8 @@ pub seat_place : (m : Meaning) (call : Call) → refusal_of m call ≡ None → 
 seat_place m call e = let parts = none_above (nat_le seat_count (seat_of call)) _ (seat_refusal m call) e in (leb-false seat_count (seat_of call) parts.0, parts.1)
 
 -- the number of writers that will make, where one seat changes
-pub taken-after : (m m' : Meaning) (s : ℕ) (part : Option Open) → length m.seats ≡ 8 → s < 8 → m'.seats ≡ slice_set m.seats s part → count_by will_make m'.seats + one (will_make (seat_part m s)) ≡ count_by will_make m.seats + one (will_make part)
-taken-after m m' s part sized place effect = ap (λ (l : List (Option Open)). count_by will_make l + one (will_make (seat_part m s))) effect ∙ count_set will_make m.seats s part None (omega arith)
+pub taken_after : (m m' : Meaning) (s : ℕ) (part : Option Open) → length m.seats ≡ 8 → s < 8 → m'.seats ≡ slice_set m.seats s part → count_by will_make m'.seats + one (will_make (seat_part m s)) ≡ count_by will_make m.seats + one (will_make part)
+taken_after m m' s part sized place effect = ap (λ (l : List (Option Open)). count_by will_make l + one (will_make (seat_part m s))) effect ∙ count_set will_make m.seats s part None (omega arith)
 
 -- openings
 free_part : (m : Meaning) (kind : Kind) (part : Option Open) → open_refusal m kind part ≡ None → (part ≡ None) × ((is_writer kind && nat_le max_number (numbers_taken m)) ≡ false)
@@ -60,14 +60,14 @@ module _ (st : State) (sound : Sound st) (kind : Kind) (seat : ℕ) (none : refu
   free : (seat_part (meaning_of st) seat ≡ None) × ((is_writer kind && nat_le max_number (numbers_taken (meaning_of st))) ≡ false)
   free = free_part (meaning_of st) kind (seat_part (meaning_of st) seat) (seat_place (meaning_of st) (calls.Open kind seat) none).1
 
-  seats-after : (meaning_of (waiting_at st seat (Some kind))).seats ≡ slice_set (meaning_of st).seats seat (waiting_part (Some kind))
-  seats-after = waits_now st.waiting st.number (latest st) st.turn seat (Some kind) (no_turn st seat st.turn (sym (part_is st sound.seats sound.within seat place) ∙ free.0))
+  seats_after : (meaning_of (waiting_at st seat (Some kind))).seats ≡ slice_set (meaning_of st).seats seat (waiting_part (Some kind))
+  seats_after = waits_now st.waiting st.number (latest st) st.turn seat (Some kind) (no_turn st seat st.turn (sym (part_is st sound.seats sound.within seat place) ∙ free.0))
 
-  pub opening-waits : Accepts 2 (meaning_of st) (calls.Open kind seat) (meaning_of (waiting_at st seat (Some kind)))
-  opening-waits = record {
+  pub opening_waits : Accepts 2 (meaning_of st) (calls.Open kind seat) (meaning_of (waiting_at st seat (Some kind)))
+  opening_waits = record {
     owed = 1;
     within = omega arith;
-    effect = (λ i. record { cells = latest st; number = st.number; seats = seats-after i; waits = (meaning_of (waiting_at st seat (Some kind))).waits });
+    effect = (λ i. record { cells = latest st; number = st.number; seats = seats_after i; waits = (meaning_of (waiting_at st seat (Some kind))).waits });
   }
 
   pub opening_sound : Sound (waiting_at st seat (Some kind))
@@ -78,7 +78,7 @@ module _ (st : State) (sound : Sound st) (kind : Kind) (seat : ℕ) (none : refu
     within = sound.within;
     fits = sound.fits;
     room =
-        let counts = taken-after (meaning_of st) (meaning_of (waiting_at st seat (Some kind))) seat (waiting_part (Some kind)) (seats_sized st sound.seats) place seats-after in
+        let counts = taken_after (meaning_of st) (meaning_of (waiting_at st seat (Some kind))) seat (waiting_part (Some kind)) (seats_sized st sound.seats) place seats_after in
         let before : one (will_make (seat_part (meaning_of st) seat)) ≡ 0 = ap (λ p. one (will_make p)) free.0 in
         omega (arith, writer_room kind (numbers_taken (meaning_of st)) sound.room free.1);
   }
@@ -103,13 +103,13 @@ ready_stage (Putting write) e = absurd (true≢false e)
 ready_stage Ending e = absurd (true≢false e)
 ready_stage Made e = absurd (true≢false e)
 
-owed-few : (stage : Stage) (kind : Kind) → stage_owed stage kind ≤ 2
-owed-few Ready kind = omega arith
-owed-few (Getting cell) kind = omega arith
-owed-few (Putting write) kind = omega arith
-owed-few Ending Reader = omega arith
-owed-few Ending Writer = omega arith
-owed-few Made kind = omega arith
+owed_few : (stage : Stage) (kind : Kind) → stage_owed stage kind ≤ 2
+owed_few Ready kind = omega arith
+owed_few (Getting cell) kind = omega arith
+owed_few (Putting write) kind = omega arith
+owed_few Ending Reader = omega arith
+owed_few Ending Writer = omega arith
+owed_few Made kind = omega arith
 
 idle_part : (part : Option Open) → end_refusal part ≡ None → (o : Open) × (part ≡ Some o) × (is_busy o ≡ false)
 idle_part None e = let z : ◌≡◌ {A = ℕ} 0 1 = cc in absurd (omega arith)
@@ -181,14 +181,14 @@ module _ (st : State) (sound : Sound st) (seat : ℕ) (stage : Stage) (none : re
     new_part : Some (turn_part next st.number (latest st)) ≡ asked_for (stage_request stage) (stage_owed stage t.kind) (seat_part (meaning_of st) seat)
     new_part = asked_part stage t st.number (latest st) ready unmade ∙ ap (asked_for (stage_request stage) (stage_owed stage t.kind)) (sym old_part)
 
-    seats-asked : (meaning_of (turn_at st next)).seats ≡ slice_set (meaning_of st).seats seat (Some (turn_part next st.number (latest st)))
-    seats-asked = goes_on st.waiting st.number (latest st) t next st.number (latest st) refl ∙ (λ i. set (sym old_seats i) (turn_is.1 i) (Some (turn_part next st.number (latest st))))
+    seats_asked : (meaning_of (turn_at st next)).seats ≡ slice_set (meaning_of st).seats seat (Some (turn_part next st.number (latest st)))
+    seats_asked = goes_on st.waiting st.number (latest st) t next st.number (latest st) refl ∙ (λ i. set (sym old_seats i) (turn_is.1 i) (Some (turn_part next st.number (latest st))))
 
     pub asks : Asked (meaning_of st) seat (stage_request stage) (meaning_of (turn_at st next))
     asks = record {
       owed = stage_owed stage t.kind;
-      within = owed-few stage t.kind;
-      effect = (λ i. record { cells = latest st; number = st.number; seats = (seats-asked ∙ ap (set (meaning_of st).seats seat) new_part) i; waits = (meaning_of (turn_at st next)).waits });
+      within = owed_few stage t.kind;
+      effect = (λ i. record { cells = latest st; number = st.number; seats = (seats_asked ∙ ap (set (meaning_of st).seats seat) new_part) i; waits = (meaning_of (turn_at st next)).waits });
     }
 
     pub asks_sound : stage_room stage t.kind t.writes ≡ true → Sound (turn_at st next)
@@ -199,7 +199,7 @@ module _ (st : State) (sound : Sound st) (seat : ℕ) (stage : Stage) (none : re
       within = omega (arith, turn_is.1, at_place);
       fits = fits;
       room =
-          let counts = taken-after (meaning_of st) (meaning_of (turn_at st next)) seat (Some (turn_part next st.number (latest st))) (seats_sized st sound.seats) at_place seats-asked in
+          let counts = taken_after (meaning_of st) (meaning_of (turn_at st next)) seat (Some (turn_part next st.number (latest st))) (seats_sized st sound.seats) at_place seats_asked in
           let same : will_make (seat_part (meaning_of st) seat) ≡ will_make (Some (turn_part next st.number (latest st))) = ap will_make old_part ∙ (λ i. is_writer t.kind && not ((ap (λ (x : Stage). has_made (stage_sight x st.number (latest st))) ready ∙ sym unmade ∙ not_made stage st.number (latest st)) i)) in
           omega (arith, sound.room, counts, ap one same);
     }
@@ -214,14 +214,14 @@ get_idle m seat cell e =
     idle_get None q = q
     idle_get (Some o) q = cond-false (is_busy o) _ None (none_above (is_busy o) _ _ q).0
 
-pub put-idle : (m : Meaning) (seat cell value : ℕ) → refusal_of m (calls.Put seat cell value) ≡ None → refusal_of m (calls.End seat) ≡ None
-put-idle m seat cell value e =
+pub put_idle : (m : Meaning) (seat cell value : ℕ) → refusal_of m (calls.Put seat cell value) ≡ None → refusal_of m (calls.End seat) ≡ None
+put_idle m seat cell value e =
     let place = none_above (nat_le seat_count seat) _ (seat_refusal m (calls.Put seat cell value)) e in
-    cond-false (nat_le seat_count seat) _ _ place.0 ∙ idle-put (seat_part m seat) place.1
+    cond-false (nat_le seat_count seat) _ _ place.0 ∙ idle_put (seat_part m seat) place.1
   where
-    idle-put : (part : Option Open) → put_refusal m cell part ≡ None → end_refusal part ≡ None
-    idle-put None q = q
-    idle-put (Some o) q = cond-false (is_busy o) _ None (none_above (is_busy o) _ _ q).0
+    idle_put : (part : Option Open) → put_refusal m cell part ≡ None → end_refusal part ≡ None
+    idle_put None q = q
+    idle_put (Some o) q = cond-false (is_busy o) _ None (none_above (is_busy o) _ _ q).0
 
 room_left : (found full : Bool) → (not found && full) ≡ false → (found || not full) ≡ true
 room_left true full e = refl
@@ -232,8 +232,8 @@ not_leb : (m n : ℕ) → not (nat_le m n) ≡ nat_lt n m
 not_leb m n = grind (arith, nat_tests)
 
 -- a put that is accepted finds room
-pub put-fits : (st : State) → Sound st → (seat cell value : ℕ) → refusal_of (meaning_of st) (calls.Put seat cell value) ≡ None → (t : Turn) → turn_of st.turn seat ≡ Some t → has_room cell (entries t.writes) ≡ true
-put-fits st sound seat cell value e t is =
+pub put_fits : (st : State) → Sound st → (seat cell value : ℕ) → refusal_of (meaning_of st) (calls.Put seat cell value) ≡ None → (t : Turn) → turn_of st.turn seat ≡ Some t → has_room cell (entries t.writes) ≡ true
+put_fits st sound seat cell value e t is =
     let place = none_above (nat_le seat_count seat) _ (seat_refusal (meaning_of st) (calls.Put seat cell value)) e in
     let part = part_is st sound.seats sound.within seat (leb-false seat_count seat place.0) ∙ ap (λ x. part_with_turn st x seat) is in
     let o = turn_part t st.number (latest st) in

@@ -39,7 +39,7 @@ one b = cond b 1 0
 pub count_set : {X : Type 0} (f : X → Bool) (l : List X) (s : ℕ) (x d : X) → s < length l → count_by f (slice_set l s x) + one (f (slice_index_or l s d)) ≡ count_by f l + one (f x)
 count_set f l s x d within = sum_by-set (λ y. one (f y)) l s x d within
 
-pub count-one : (l : List (Option Open)) (s : ℕ) → s < length l → one (will_make (slice_index_or l s None)) ≤ count_by will_make l
-count-one l s within =
+pub count_one : (l : List (Option Open)) (s : ℕ) → s < length l → one (will_make (slice_index_or l s None)) ≤ count_by will_make l
+count_one l s within =
     let without : count_by will_make (slice_set l s None) + one (will_make (slice_index_or l s None)) ≡ count_by will_make l + 0 = count_set will_make l s None None within in
     omega arith

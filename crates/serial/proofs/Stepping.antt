@@ -23,8 +23,8 @@ use Rattle.serial.specs.Moves.{committed_at, ended_at, ready_turn, SeatSteps, ta
 use Rattle.serial.specs.Rooms.{stage_room, turn_room}
 use Rattle.serial.specs.Seats.{part_with_turn, turn_of}
 use Rattle.serial.specs.States.{has_turn, latest, meaning_of, stage_owed, stage_request, stage_sight, turn_part, turn_seat, waiting_part, with_turn}
-use Rattle.serial.proofs.Accepting.{seat_place, taken-after}
-use Rattle.serial.proofs.SeatLists.{count-one, gives_up, goes_on, one, takes_turn}
+use Rattle.serial.proofs.Accepting.{seat_place, taken_after}
+use Rattle.serial.proofs.SeatLists.{count_one, gives_up, goes_on, one, takes_turn}
 use Rattle.serial.specs.Laws.{Sound, part_is, seats_sized, turn_goes_on, turn_has_part}
 
 -- one more value is written
@@ -57,7 +57,7 @@ module _ (st : State) (sound : Sound st) (t : Turn) (turn_is : st.turn ≡ Some 
 
   room_after : (st' : State) (p : Option Open) → (meaning_of st').seats ≡ slice_set (meaning_of st).seats t.seat p → st'.number + one (will_make p) ≤ st.number + one (will_make (Some (turn_part t st.number (latest st)))) → numbers_taken (meaning_of st') ≤ 2147483647
   room_after st' p effect fewer =
-      let counts = taken-after (meaning_of st) (meaning_of st') t.seat p (seats_sized st sound.seats) place effect in
+      let counts = taken_after (meaning_of st) (meaning_of st') t.seat p (seats_sized st sound.seats) place effect in
       let was : one (will_make (seat_part (meaning_of st) t.seat)) ≡ one (will_make (Some (turn_part t st.number (latest st)))) = ap (λ x. one (will_make x)) holder_part in
       omega (arith, sound.room, counts, was, fewer)
 
@@ -89,7 +89,7 @@ module _ (st : State) (sound : Sound st) (t : Turn) (turn_is : st.turn ≡ Some 
   tells_now cell asked =
       let saw = ap (λ (x : Stage). stage_sight x st.number (latest st)) asked in
       subst (Steps (meaning_of st) t.seat (turn_part t st.number (latest st)) words.Told (tells (turn_part t st.number (latest st)) (latest st) cell)) (answered_is t.writes _ _ saw refl)
-      (effects.tells-value goes cell (ap stage_request asked) st.number (latest st) saw 0 (omega (arith, ap (λ (x : Stage). stage_owed x t.kind) asked)) _)
+      (effects.tells_value goes cell (ap stage_request asked) st.number (latest st) saw 0 (omega (arith, ap (λ (x : Stage). stage_owed x t.kind) asked)) _)
 
   -- put
   pub puts_now : (write : Write) (ws : WriteSet) → t.stage ≡ Putting write → entries ws ≡ with_put write (entries t.writes) → TurnSteps st t words.Put 0 (answered ws)
@@ -97,8 +97,8 @@ module _ (st : State) (sound : Sound st) (t : Turn) (turn_is : st.turn ≡ Some 
       subst (Steps (meaning_of st) t.seat (turn_part t st.number (latest st)) words.Put 0) (answered_is ws _ _ (ap (λ (x : Stage). stage_sight x st.number (latest st)) asked) (sym wrote))
       (effects.puts goes write (ap stage_request asked) 0 (omega (arith, ap (λ (x : Stage). stage_owed x t.kind) asked)) _)
 
-  pub put-room : (write : Write) → t.stage ≡ Putting write → has_room write.cell (entries t.writes) ≡ true
-  put-room write asked = ap (λ (x : Stage). stage_room x t.kind t.writes) (sym asked) ∙ ap turn_room (sym turn_is) ∙ sound.fits
+  pub put_room : (write : Write) → t.stage ≡ Putting write → has_room write.cell (entries t.writes) ≡ true
+  put_room write asked = ap (λ (x : Stage). stage_room x t.kind t.writes) (sym asked) ∙ ap turn_room (sym turn_is) ∙ sound.fits
 
   writer_is : (k : Kind) → is_writer k ≡ true → k ≡ Writer
   writer_is Reader e = absurd (true≢false (sym e))
@@ -112,11 +112,11 @@ module _ (st : State) (sound : Sound st) (t : Turn) (turn_is : st.turn ≡ Some 
   owed_is stage kind at is = (λ i. stage_owed (at i) (is i))
 
   -- ended
-  ended-seats : (meaning_of (ended_at st t.seat)).seats ≡ slice_set (meaning_of st).seats t.seat None
-  ended-seats = gives_up st.waiting st.number (latest st) t ∙ ap (λ (l : List (Option Open)). set l t.seat None) (sym old_seats)
+  ended_seats : (meaning_of (ended_at st t.seat)).seats ≡ slice_set (meaning_of st).seats t.seat None
+  ended_seats = gives_up st.waiting st.number (latest st) t ∙ ap (λ (l : List (Option Open)). set l t.seat None) (sym old_seats)
 
   ended_is : with_seat (meaning_of st) t.seat None (meaning_of (ended_at st t.seat)).waits ≡ meaning_of (ended_at st t.seat)
-  ended_is = (λ i. record { cells = latest st; number = st.number; seats = sym ended-seats i; waits = (meaning_of (ended_at st t.seat)).waits })
+  ended_is = (λ i. record { cells = latest st; number = st.number; seats = sym ended_seats i; waits = (meaning_of (ended_at st t.seat)).waits })
 
   pub ended_sound : Sound (ended_at st t.seat)
   ended_sound = record {
@@ -125,7 +125,7 @@ module _ (st : State) (sound : Sound st) (t : Turn) (turn_is : st.turn ≡ Some 
     seats = length-set st.waiting t.seat None ∙ sound.seats;
     within = omega arith;
     fits = refl;
-    room = room_after (ended_at st t.seat) None ended-seats (omega arith);
+    room = room_after (ended_at st t.seat) None ended_seats (omega arith);
   }
 
   pub ends_now : ((t.stage ≡ Made) × (t.kind ≡ Writer)) ⊎ ((t.stage ≡ Ending) × (t.kind ≡ Reader)) → TurnSteps st t words.Ended st.number (ended_at st t.seat)
@@ -144,11 +144,11 @@ module _ (st : State) (sound : Sound st) (t : Turn) (turn_is : st.turn ≡ Some 
     abbrev after : State
     after = committed_at st cells t
 
-    made-seats : (meaning_of after).seats ≡ slice_set (meaning_of st).seats t.seat (Some (turn_part made_turn (st.number + 1) (take st.count cells)))
-    made-seats = on made_turn (st.number + 1) (take st.count cells) refl
+    made_seats : (meaning_of after).seats ≡ slice_set (meaning_of st).seats t.seat (Some (turn_part made_turn (st.number + 1) (take st.count cells)))
+    made_seats = on made_turn (st.number + 1) (take st.count cells) refl
 
     made_is : committed (meaning_of st) t.seat (turn_part t st.number (latest st)) 1 (meaning_of after).waits ≡ meaning_of after
-    made_is = (λ i. record { cells = sym wrote i; number = st.number + 1; seats = sym made-seats i; waits = (meaning_of after).waits })
+    made_is = (λ i. record { cells = sym wrote i; number = st.number + 1; seats = sym made_seats i; waits = (meaning_of after).waits })
 
     saw : stage_sight t.stage st.number (latest st) ≡ view st.number (latest st)
     saw = ap (λ (x : Stage). stage_sight x st.number (latest st)) at
@@ -171,13 +171,13 @@ module _ (st : State) (sound : Sound st) (t : Turn) (turn_is : st.turn ≡ Some 
       seats = sound.seats;
       within = place;
       fits = ap is_writer kind;
-      room = room_after after (Some (turn_part made_turn (st.number + 1) (take st.count cells))) made-seats (omega (arith, ap one will, ap one will_not));
+      room = room_after after (Some (turn_part made_turn (st.number + 1) (take st.count cells))) made_seats (omega (arith, ap one will, ap one will_not));
     }
 
   -- a writer that has not made finds a number
   pub number_left : t.stage ≡ Ending → t.kind ≡ Writer → st.number + 1 ≤ 2147483647
   number_left at kind =
-      let some = count-one (meaning_of st).seats t.seat (omega (arith, seats_sized st sound.seats, place)) in
+      let some = count_one (meaning_of st).seats t.seat (omega (arith, seats_sized st sound.seats, place)) in
       let will-make : will_make (seat_part (meaning_of st) t.seat) ≡ true = ap will_make holder_part ∙ (λ i. is_writer (kind i) && not (has_made (stage_sight (at i) st.number (latest st)))) in
       omega (arith, sound.room, some, ap one will-make)
 
@@ -189,8 +189,8 @@ module _ (st : State) (sound : Sound st) (free : st.turn ≡ None) (seat : ℕ) 
   part_waits : seat_part (meaning_of st) seat ≡ waiting_part (slice_index_or st.waiting seat None)
   part_waits = part_is st sound.seats sound.within seat at_place ∙ ap (λ x. part_with_turn st (turn_of x seat) seat) free
 
-  pub some-waits : get_or st.waiting seat None ≡ None → ⊥
-  some-waits none =
+  pub some_waits : get_or st.waiting seat None ≡ None → ⊥
+  some_waits none =
       let refusal = ap step_refusal (sym (ap waiting_part none) ∙ sym part_waits) ∙ (seat_place (meaning_of st) (calls.Step seat) busy).1 in
       let z : ◌≡◌ {A = ℕ} 0 1 = cc in
       omega arith
@@ -199,8 +199,8 @@ module _ (st : State) (sound : Sound st) (free : st.turn ≡ None) (seat : ℕ) 
     abbrev taker : Turn
     taker = record { seat = seat; kind = kind; stage = Ready; writes = ws }
 
-    taken-seats : (meaning_of (taken_at st taker)).seats ≡ slice_set (meaning_of st).seats seat (Some (turn_part taker st.number (latest st)))
-    taken-seats = takes_turn st.waiting st.number (latest st) taker ∙ ap (λ x. set (with_turn x st.number (latest st) (map waiting_part st.waiting)) seat (Some (turn_part taker st.number (latest st)))) (sym free)
+    taken_seats : (meaning_of (taken_at st taker)).seats ≡ slice_set (meaning_of st).seats seat (Some (turn_part taker st.number (latest st)))
+    taken_seats = takes_turn st.waiting st.number (latest st) taker ∙ ap (λ x. set (with_turn x st.number (latest st) (map waiting_part st.waiting)) seat (Some (turn_part taker st.number (latest st)))) (sym free)
 
     abbrev opener : Open
     opener = record { kind = kind; request = Some opening; sight = nothing; writes = []; owed = 1 }
@@ -208,16 +208,16 @@ module _ (st : State) (sound : Sound st) (free : st.turn ≡ None) (seat : ℕ) 
     waits_here : seat_part (meaning_of st) seat ≡ Some opener
     waits_here = part_waits ∙ ap waiting_part is
 
-    goes-free : (meaning_of st).waits seat ≡ false
-    goes-free = ap (λ x. is_some x && not (has_turn x seat)) free
+    goes_free : (meaning_of st).waits seat ≡ false
+    goes_free = ap (λ x. is_some x && not (has_turn x seat)) free
 
     opened_is : with_seat (meaning_of st) seat (onward opener None (view st.number (latest st)) [] 0) (meaning_of (taken_at st taker)).waits ≡ meaning_of (taken_at st taker)
     opened_is =
         let parts : onward opener None (view st.number (latest st)) [] 0 ≡ Some (turn_part taker st.number (latest st)) = (λ i. Some (record { kind = kind; request = None; sight = view st.number (latest st); writes = sym empty i; owed = 0 })) in
-        (λ i. record { cells = latest st; number = st.number; seats = (ap (set (meaning_of st).seats seat) parts ∙ sym taken-seats) i; waits = (meaning_of (taken_at st taker)).waits })
+        (λ i. record { cells = latest st; number = st.number; seats = (ap (set (meaning_of st).seats seat) parts ∙ sym taken_seats) i; waits = (meaning_of (taken_at st taker)).waits })
 
     pub opens_now : SeatSteps (meaning_of st) seat words.Opened st.number (meaning_of (taken_at st taker))
-    opens_now = (opener, waits_here, subst (Steps (meaning_of st) seat opener words.Opened st.number) opened_is (effects.opens goes-free refl st.number (latest st) (inr (refl, refl, refl)) 0 (omega arith) _))
+    opens_now = (opener, waits_here, subst (Steps (meaning_of st) seat opener words.Opened st.number) opened_is (effects.opens goes_free refl st.number (latest st) (inr (refl, refl, refl)) 0 (omega arith) _))
 
     pub taken_sound : Sound (taken_at st taker)
     taken_sound = record {
@@ -227,7 +227,7 @@ module _ (st : State) (sound : Sound st) (free : st.turn ≡ None) (seat : ℕ) 
       within = at_place;
       fits = refl;
       room =
-          let counts = taken-after (meaning_of st) (meaning_of (taken_at st taker)) seat (Some (turn_part taker st.number (latest st))) (seats_sized st sound.seats) at_place taken-seats in
+          let counts = taken_after (meaning_of st) (meaning_of (taken_at st taker)) seat (Some (turn_part taker st.number (latest st))) (seats_sized st sound.seats) at_place taken_seats in
           let same : will_make (seat_part (meaning_of st) seat) ≡ will_make (Some (turn_part taker st.number (latest st))) = ap will_make waits_here in
           omega (arith, sound.room, counts, ap one same);
     }

@@ -49,12 +49,12 @@ module _ (st : State) (sized : length st.waiting ≡ 8) where
   pub part_is : turn_seat st.turn < 8 → (s : ℕ) → s < 8 → seat_part (meaning_of st) s ≡ part_at st s
   part_is within s place = part_by st.turn within s place
 
-  seats-by : (turn : Option Turn) → length (with_turn turn st.number (latest st) base) ≡ 8
-  seats-by None = long
-  seats-by (Some t) = length-set base t.seat (Some (turn_part t st.number (latest st))) ∙ long
+  seats_by : (turn : Option Turn) → length (with_turn turn st.number (latest st) base) ≡ 8
+  seats_by None = long
+  seats_by (Some t) = length-set base t.seat (Some (turn_part t st.number (latest st))) ∙ long
 
   pub seats_sized : length (meaning_of st).seats ≡ seat_count
-  seats_sized = seats-by st.turn
+  seats_sized = seats_by st.turn
 
 module _ (st : State) (sound : Sound st) (t : Turn) (turn_is : st.turn ≡ Some t) where
   place : t.seat < 8

@@ -85,13 +85,13 @@ digit_true b low high = and_from _ _ (le-leb 48 b low) (le-leb b 57 high)
 pub digit_parts : (b : ℕ) → digit b ≡ true → (48 ≤ b) × (b ≤ 57)
 digit_parts b h = let parts = and_parts (leb 48 b) (leb b 57) h in (leb-true 48 b parts.0, leb-true b 57 parts.1)
 
-pub spelled-digit : (bs : List ℕ) (n i : ℕ) → Spelled bs n → i < length bs → digit (get_or bs i 0) ≡ true
-spelled-digit bs n i s within = let range = digit_at bs i s.digits within in digit_true _ range.0 range.1
+pub spelled_digit : (bs : List ℕ) (n i : ℕ) → Spelled bs n → i < length bs → digit (get_or bs i 0) ≡ true
+spelled_digit bs n i s within = let range = digit_at bs i s.digits within in digit_true _ range.0 range.1
 
 -- digits of the right shape write their value, and it is read where it has 32 bits
-pub reads-value : {E : Type 0} (bs : List ℕ) (v : ℕ) (r : Result ℕ E) → number_shape bs ≡ true → AllDigits 10 bs → v ≡ digits_value 10 bs → OkIff r (Fits32 v) v → ReadsNumber bs (result_ok r)
-reads-value bs v (Ok x) shape digits means (fits, same) =
+pub reads_value : {E : Type 0} (bs : List ℕ) (v : ℕ) (r : Result ℕ E) → number_shape bs ≡ true → AllDigits 10 bs → v ≡ digits_value 10 bs → OkIff r (Fits32 v) v → ReadsNumber bs (result_ok r)
+reads_value bs v (Ok x) shape digits means (fits, same) =
     let parts = shape_parts bs shape in
     let text = text_of_value bs digits parts.0 parts.2 (omega arith) in
     (omega arith, text ∙ ap decimal (sym means ∙ sym same))
-reads-value bs v (Err _) shape digits means too_large = λ n fits e. too_large (omega (arith, (spelled_out bs n fits e).means))
+reads_value bs v (Err _) shape digits means too_large = λ n fits e. too_large (omega (arith, (spelled_out bs n fits e).means))

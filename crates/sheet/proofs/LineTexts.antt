@@ -12,7 +12,7 @@ use Rattle.sheet.specs.Numbers.{Fits32}
 use Rattle.sheet.specs.Places.{rest, Passed}
 use Rattle.sheet.specs.Readings.{NoCall, NoHeading, ReadsCall, ReadsCallLine}
 use Rattle.sheet.specs.Texts.{call_letter, call_numbers, engine_letter, heading_text, line_text, spaced}
-use Rattle.sheet.proofs.ReadLines.{no_such_head, same_tail, same_number, spaced-ends}
+use Rattle.sheet.proofs.ReadLines.{no_such_head, same_tail, same_number, spaced_ends}
 
 numbers_tell : (ns ms t u : List ℕ) → AllByRecursion Fits32 ns → AllByRecursion Fits32 ms → spaced ns ++ (10 ∷ t) ≡ spaced ms ++ (10 ∷ u) → (ns ≡ ms) × (t ≡ u)
 numbers_tell [] [] t u n-fits m-fits e = (refl, same_tail 10 10 t u e)
@@ -20,12 +20,12 @@ numbers_tell [] (m ∷ ms) t u n-fits m-fits e = absurd (no_such_head 10 32 _ _ 
 numbers_tell (n ∷ ns) [] t u n-fits m-fits e = absurd (no_such_head 32 10 _ _ (λ h. omega arith) e)
 numbers_tell (n ∷ ns) (m ∷ ms) t u n-fits m-fits e =
     let tails = sym (append_assoc (decimal n) (spaced ns) (10 ∷ t)) ∙ same_tail 32 32 _ _ e ∙ append_assoc (decimal m) (spaced ms) (10 ∷ u) in
-    let both = same_number n m _ _ n-fits.0 m-fits.0 (spaced-ends ns (10 ∷ t) refl) (spaced-ends ms (10 ∷ u) refl) tails in
+    let both = same_number n m _ _ n-fits.0 m-fits.0 (spaced_ends ns (10 ∷ t) refl) (spaced_ends ms (10 ∷ u) refl) tails in
     let on = numbers_tell ns ms t u n-fits.1 m-fits.1 both.1 in
     ((λ i. both.0 i ∷ on.0 i), on.1)
 
-pub line-tells : (c d : ℕ) (ns ms t u : List ℕ) → AllByRecursion Fits32 ns → AllByRecursion Fits32 ms → line_text c ns ++ t ≡ line_text d ms ++ u → (c ≡ d) × (ns ≡ ms) × (t ≡ u)
-line-tells c d ns ms t u n-fits m-fits e =
+pub line_tells : (c d : ℕ) (ns ms t u : List ℕ) → AllByRecursion Fits32 ns → AllByRecursion Fits32 ms → line_text c ns ++ t ≡ line_text d ms ++ u → (c ≡ d) × (ns ≡ ms) × (t ≡ u)
+line_tells c d ns ms t u n-fits m-fits e =
     let tails = sym (append_assoc (spaced ns) (10 ∷ []) t) ∙ same_tail c d _ _ e ∙ append_assoc (spaced ms) (10 ∷ []) u in
     let on = numbers_tell ns ms t u n-fits m-fits tails in
     (ap (λ (l : List ℕ). get_or l 0 0) e, on.0, on.1)
@@ -51,7 +51,7 @@ no_line_no_heading bs none engine version cells after fits e = none (engine_lett
 module _ (before after : Cursor) (letter : ℕ) (numbers : List ℕ) (fits : AllByRecursion Fits32 numbers) (line : Passed before after (line_text letter numbers) 1) where
   -- each line that could stand there is this one
   this_line : (d : ℕ) (ms u : List ℕ) → AllByRecursion Fits32 ms → rest before ≡ line_text d ms ++ u → (d ≡ letter) × (ms ≡ numbers) × (u ≡ rest after)
-  this_line d ms u ms-fit e = line-tells d letter ms numbers u (rest after) ms-fit fits (sym e ∙ line.split)
+  this_line d ms u ms-fit e = line_tells d letter ms numbers u (rest after) ms-fit fits (sym e ∙ line.split)
 
   pub reads_call_line : (r : Option Call) → ReadsCall letter numbers r → ReadsCallLine before after r
   reads_call_line None none = λ call u Call-fits e. let this = this_line (call_letter call) (call_numbers call) u Call-fits e in none call this.0 this.1

@@ -11,7 +11,7 @@ use Rattle.sheet.specs.Lines.{FieldEnds, NoOperand, ReadsOperand}
 use Rattle.sheet.specs.Numbers.{Fits32, ReadsNumber}
 use Rattle.sheet.specs.Places.{rest, Moved, Passed}
 use Rattle.sheet.proofs.Decimals.{spelled_out}
-use Rattle.sheet.proofs.Words.{Solid, word_front, after-word, starts_then}
+use Rattle.sheet.proofs.Words.{Solid, word_front, after_word, starts_then}
 
 digits_solid : (ds : List ℕ) → AllDigits 10 ds → Solid ds
 digits_solid [] h = tt
@@ -34,18 +34,18 @@ letter_is_no_number n w letter fits e =
     let apart = (and_parts (eqb (length w) 1) (not (digit (get_or w 0 0))) letter).1 in
     grind (arith, nat_tests)
 
-pub moved-rest : (before after : Cursor) (bytes lines : ℕ) → Moved before after bytes lines → rest after ≡ drop bytes (rest before)
-moved-rest before after bytes lines m = ap (λ (p : ℕ). drop p after.sheet.now) m.place ∙ ap (drop (before.place + bytes)) m.sheet ∙ sym (drop-drop bytes before.place before.sheet.now)
+pub moved_rest : (before after : Cursor) (bytes lines : ℕ) → Moved before after bytes lines → rest after ≡ drop bytes (rest before)
+moved_rest before after bytes lines m = ap (λ (p : ℕ). drop p after.sheet.now) m.place ∙ ap (drop (before.place + bytes)) m.sheet ∙ sym (drop-drop bytes before.place before.sheet.now)
 
 -- the cursor went past one byte
 pub passed_byte : (b : ℕ) (before after : Cursor) (lines : ℕ) → starts_with b (rest before) ≡ true → Moved before after 1 lines → rest before ≡ b ∷ rest after
-passed_byte b before after lines found m = starts_then b (rest before) found ∙ ap (λ (l : List ℕ). b ∷ l) (sym (moved-rest before after 1 lines m))
+passed_byte b before after lines found m = starts_then b (rest before) found ∙ ap (λ (l : List ℕ). b ∷ l) (sym (moved_rest before after 1 lines m))
 
 -- the cursor went past the first word
 pub passed_word : (before after : Cursor) → Moved before after (word_length (rest before)) 0 → (rest before ≡ word (rest before) ++ rest after) × FieldEnds (rest after)
 passed_word before after m =
-    let left = moved-rest before after (word_length (rest before)) 0 m in
-    (sym (take-append-drop (word_length (rest before)) (rest before)) ∙ ap (λ (l : List ℕ). word (rest before) ++ l) (sym left), ap word_length left ∙ after-word (rest before))
+    let left = moved_rest before after (word_length (rest before)) 0 m in
+    (sym (take-append-drop (word_length (rest before)) (rest before)) ∙ ap (λ (l : List ℕ). word (rest before) ++ l) (sym left), ap word_length left ∙ after_word (rest before))
 
 module _ (before between after : Cursor) (found : starts_with 32 (rest before) ≡ true) (space : Moved before between 1 0) where
   pub no_operand : ((n : ℕ) → Fits32 n → word (rest between) ≡ decimal n → ⊥) → NoOperand (rest before)

@@ -18,9 +18,9 @@ same_number m n x y m-fits n-fits x-ends y-ends e =
     let texts : decimal m ≡ decimal n = sym (number_word m x (decimal m ++ x) m-fits x-ends refl) ∙ number_word n y (decimal m ++ x) n-fits y-ends e in
     (decimal_injective m n (omega arith) (omega arith) texts, append_cancel_left (decimal n) x y (subst (λ (l : List ℕ). l ++ x ≡ decimal n ++ y) texts e))
 
-pub spaced-ends : (ns left : List ℕ) → FieldEnds left → FieldEnds (spaced ns ++ left)
-spaced-ends [] left ends = ends
-spaced-ends (n ∷ ns) left ends = refl
+pub spaced_ends : (ns left : List ℕ) → FieldEnds left → FieldEnds (spaced ns ++ left)
+spaced_ends [] left ends = ends
+spaced_ends (n ∷ ns) left ends = refl
 
 -- more numbers are to be read, and this is the next one
 pub record Next (more left after : List ℕ) : Type 0 where
@@ -36,14 +36,14 @@ pub same_tail : (a b : ℕ) (x y : List ℕ) → a ∷ x ≡ b ∷ y → x ≡ y
 same_tail a b x y e = ap (drop 1) e
 
 -- where `seen` is read, `left` is to be read, and no line feed is next, a text that stands there has a number next
-pub next-number : (seen more left after : List ℕ) → AllByRecursion Fits32 seen → AllByRecursion Fits32 more → FieldEnds left → starts_with 10 left ≡ false → spaced more ++ (10 ∷ after) ≡ spaced seen ++ left → Next more left after
-next-number [] [] left after s m ends apart e = absurd (true≢false (ap (starts_with 10) e ∙ apart))
-next-number [] (n ∷ more) left after s m ends apart e = record { number = n; others = more; fits = m.0; split = sym e ∙ ap (λ (l : List ℕ). 32 ∷ l) (append_assoc (decimal n) (spaced more) (10 ∷ after)) }
-next-number (k ∷ seen) [] left after s m ends apart e = absurd (no_such_head 10 32 _ _ (λ h. omega arith) e)
-next-number (k ∷ seen) (n ∷ more) left after s m ends apart e =
+pub next_number : (seen more left after : List ℕ) → AllByRecursion Fits32 seen → AllByRecursion Fits32 more → FieldEnds left → starts_with 10 left ≡ false → spaced more ++ (10 ∷ after) ≡ spaced seen ++ left → Next more left after
+next_number [] [] left after s m ends apart e = absurd (true≢false (ap (starts_with 10) e ∙ apart))
+next_number [] (n ∷ more) left after s m ends apart e = record { number = n; others = more; fits = m.0; split = sym e ∙ ap (λ (l : List ℕ). 32 ∷ l) (append_assoc (decimal n) (spaced more) (10 ∷ after)) }
+next_number (k ∷ seen) [] left after s m ends apart e = absurd (no_such_head 10 32 _ _ (λ h. omega arith) e)
+next_number (k ∷ seen) (n ∷ more) left after s m ends apart e =
     let tails = sym (append_assoc (decimal n) (spaced more) (10 ∷ after)) ∙ same_tail 32 32 _ _ e ∙ append_assoc (decimal k) (spaced seen) left in
-    let both = same_number n k _ _ m.0 s.0 (spaced-ends more (10 ∷ after) refl) (spaced-ends seen left ends) tails in
-    let on = next-number seen more left after s.1 m.1 ends apart both.1 in
+    let both = same_number n k _ _ m.0 s.0 (spaced_ends more (10 ∷ after) refl) (spaced_ends seen left ends) tails in
+    let on = next_number seen more left after s.1 m.1 ends apart both.1 in
     record { number = on.number; others = on.others; fits = on.fits; split = on.split }
 
 -- numbers are read, and the field that was read last has ended
@@ -54,8 +54,8 @@ pub record Begun (start numbers left : List ℕ) : Type 0 where
 
 pub not_begun : (start numbers left : List ℕ) → Begun start numbers left → starts_with 10 left ≡ false → NoOperand left → NoOperands start
 not_begun start numbers left h apart none more after fits e =
-    let on = next-number numbers more left after h.fits fits h.ends apart (sym (append_assoc (spaced more) (10 ∷ []) after) ∙ sym e ∙ h.split) in
-    none on.number (spaced on.others ++ (10 ∷ after)) on.fits (spaced-ends on.others (10 ∷ after) refl) on.split
+    let on = next_number numbers more left after h.fits fits h.ends apart (sym (append_assoc (spaced more) (10 ∷ []) after) ∙ sym e ∙ h.split) in
+    none on.number (spaced on.others ++ (10 ∷ after)) on.fits (spaced_ends on.others (10 ∷ after) refl) on.split
 
 spaced_push : (ns : List ℕ) (n : ℕ) (left : List ℕ) → spaced ns ++ (32 ∷ (decimal n ++ left)) ≡ spaced (ns ++ (n ∷ [])) ++ left
 spaced_push [] n left = ap (λ (l : List ℕ). 32 ∷ (l ++ left)) (sym (append-nil (decimal n)))
@@ -76,7 +76,7 @@ begun_done start numbers left after h feed e =
 -- the word at the front of a line is its letter
 letter_word : (letter : ℕ) (numbers after : List ℕ) → LineLetter letter → word (line_text letter numbers ++ after) ≡ letter ∷ []
 letter_word letter numbers after is =
-    let ends = spaced-ends numbers (10 ∷ after) refl in
+    let ends = spaced_ends numbers (10 ∷ after) refl in
     ap (λ (l : List ℕ). word (letter ∷ l)) (append_assoc (spaced numbers) (10 ∷ []) after) ∙ word_front (letter ∷ []) (spaced numbers ++ (10 ∷ after)) (is.0, tt) ends
 
 -- bytes whose first word is no letter are no line

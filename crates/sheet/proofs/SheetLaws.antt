@@ -12,7 +12,7 @@ use Rattle.sheet.specs.Numbers.{Fits32}
 use Rattle.sheet.specs.Outcomes.{Content, Front, declined, no_call, no_heading, readable, sheet_text, too_many_bytes, too_many_calls, whole}
 use Rattle.sheet.specs.Readings.{NoCall, NoHeading}
 use Rattle.sheet.specs.Texts.{CallFits, call_letter, call_numbers, calls_text, call_text, engine_letter, heading_text}
-use Rattle.sheet.proofs.LineTexts.{line-tells}
+use Rattle.sheet.proofs.LineTexts.{line_tells}
 
 -- the call with this letter and these numbers
 call_with : ℕ → List ℕ → Call
@@ -37,18 +37,18 @@ is_engine_with Pessimistic = refl
 is_engine_with Serial = refl
 
 -- a call's text tells the call and where the text ends
-call-tells : (c d : Call) (t u : List ℕ) → CallFits c → CallFits d → call_text c ++ t ≡ call_text d ++ u → (c ≡ d) × (t ≡ u)
-call-tells c d t u c-fits d-fits e =
-    let line = line-tells (call_letter c) (call_letter d) (call_numbers c) (call_numbers d) t u c-fits d-fits e in
+call_tells : (c d : Call) (t u : List ℕ) → CallFits c → CallFits d → call_text c ++ t ≡ call_text d ++ u → (c ≡ d) × (t ≡ u)
+call_tells c d t u c-fits d-fits e =
+    let line = line_tells (call_letter c) (call_letter d) (call_numbers c) (call_numbers d) t u c-fits d-fits e in
     (is_call_with c ∙ (λ i. call_with (line.0 i) (line.1 i)) ∙ sym (is_call_with d), line.2)
 
 heading_tells : (e f : EngineChoice) (v w : ℕ) (cs ds t u : List ℕ) → AllByRecursion Fits32 (v ∷ cs) → AllByRecursion Fits32 (w ∷ ds) → heading_text e v cs ++ t ≡ heading_text f w ds ++ u → (e ≡ f) × (v ∷ cs ≡ w ∷ ds) × (t ≡ u)
 heading_tells e f v w cs ds t u e-fits f-fits same =
-    let line = line-tells (engine_letter e) (engine_letter f) (v ∷ cs) (w ∷ ds) t u e-fits f-fits same in
+    let line = line_tells (engine_letter e) (engine_letter f) (v ∷ cs) (w ∷ ds) t u e-fits f-fits same in
     (is_engine_with e ∙ ap engine_with line.0 ∙ sym (is_engine_with f), line.1, line.2)
 
 pub calls_have_own_texts : CallsHaveOwnTexts
-calls_have_own_texts c d c-fits d-fits e = (call-tells c d [] [] c-fits d-fits (ap (λ (l : List ℕ). l ++ []) e)).0
+calls_have_own_texts c d c-fits d-fits e = (call_tells c d [] [] c-fits d-fits (ap (λ (l : List ℕ). l ++ []) e)).0
 
 pub headings_have_own_texts : HeadingsHaveOwnTexts
 headings_have_own_texts e f v w cs ds e-fits f-fits same =
@@ -78,7 +78,7 @@ compare_calls [] [] x y c-fits d-fits e = same refl e
 compare_calls [] (d ∷ ds) x y c-fits d-fits e = first_goes_on (omega arith) (record { call = d; after = calls_text ds ++ y; fits = d-fits.0; split = e ∙ append_assoc (call_text d) (calls_text ds) y })
 compare_calls (c ∷ cs) [] x y c-fits d-fits e = second_goes_on (omega arith) (record { call = c; after = calls_text cs ++ x; fits = c-fits.0; split = sym e ∙ append_assoc (call_text c) (calls_text cs) x })
 compare_calls (c ∷ cs) (d ∷ ds) x y c-fits d-fits e =
-    let told = call-tells c d (calls_text cs ++ x) (calls_text ds ++ y) c-fits.0 d-fits.0 (sym (append_assoc (call_text c) (calls_text cs) x) ∙ e ∙ append_assoc (call_text d) (calls_text ds) y) in
+    let told = call_tells c d (calls_text cs ++ x) (calls_text ds ++ y) c-fits.0 d-fits.0 (sym (append_assoc (call_text c) (calls_text cs) x) ∙ e ∙ append_assoc (call_text d) (calls_text ds) y) in
     one_more_each c cs x d ds y told.0 (compare_calls cs ds x y c-fits.1 d-fits.1 told.1)
 
 no_more : (bs : List ℕ) → NoCall bs → OneMore bs → ⊥
@@ -101,8 +101,8 @@ module _ (bs : List ℕ) (s r : Content) (x y : List ℕ) (f : Front bs s x) (g 
   compared : Compared s.calls x r.calls y
   compared = compare_calls s.calls r.calls x y f.fits.1 g.fits.1 fronts.2
 
-  same-content : s.calls ≡ r.calls → s ≡ r
-  same-content e = λ i. record { engine = fronts.0 i; version = get_or (fronts.1 i) 0 0; cells = drop 1 (fronts.1 i); calls = e i }
+  same_content : s.calls ≡ r.calls → s ≡ r
+  same_content e = λ i. record { engine = fronts.0 i; version = get_or (fronts.1 i) 0 0; cells = drop 1 (fronts.1 i); calls = e i }
 
   -- a refused call stands in one place only
   one_bad_line : NoCall x → NoCall y → length s.calls ≡ length r.calls
@@ -113,8 +113,8 @@ module _ (bs : List ℕ) (s r : Content) (x y : List ℕ) (f : Front bs s x) (g 
   ends_at_bad_line no-x fewer = elim compared [ same e _ ↦ omega (arith, ap length e) | first_goes_on _ more ↦ no_more x no-x more | second_goes_on few _ ↦ omega arith ]
 
   -- the whole sheet is read once
-  one-whole : x ≡ [] → y ≡ [] → s ≡ r
-  one-whole no-x no-y = elim compared [ same e _ ↦ same-content e | first_goes_on _ more ↦ absurd (not_empty x no-x more) | second_goes_on _ more ↦ absurd (not_empty y no-y more) ]
+  one_whole : x ≡ [] → y ≡ [] → s ≡ r
+  one_whole no-x no-y = elim compared [ same e _ ↦ same_content e | first_goes_on _ more ↦ absurd (not_empty x no-x more) | second_goes_on _ more ↦ absurd (not_empty y no-y more) ]
 
   -- what is left behind a whole sheet's calls is nothing
   nothing_left : y ≡ [] → 0 < length x → (NoCall x) ⊎ (length r.calls ≤ length s.calls) → ⊥
@@ -150,7 +150,7 @@ outcome_is_unique bs _ _ (whole short _ _ _) (too_many_bytes long) = absurd (ome
 outcome_is_unique bs _ _ (whole _ s f _) (no_heading _ none) = absurd (begins_with_heading bs s [] f none)
 outcome_is_unique bs _ _ (whole _ s f _) (no_call _ r y g few some no-y) = absurd (nothing_left bs r s y [] g f refl some (inl no-y))
 outcome_is_unique bs _ _ (whole _ s f few) (too_many_calls _ r y g many some) = absurd (nothing_left bs r s y [] g f refl some (inr (omega arith)))
-outcome_is_unique bs _ _ (whole _ s f _) (whole _ r g _) = ap readable (one-whole bs s r [] [] f g refl refl)
+outcome_is_unique bs _ _ (whole _ s f _) (whole _ r g _) = ap readable (one_whole bs s r [] [] f g refl refl)
 
 pub written_is_read_back : WrittenIsReadBack
 written_is_read_back s fits short few = whole short s (record { fits = fits; split = sym (append-nil (sheet_text s)) }) few

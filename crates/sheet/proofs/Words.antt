@@ -16,8 +16,8 @@ starts_past b i bs past = at_drop_all (starts_with b) bs i past
 pub word_goes_on : (bs : List ℕ) (i : ℕ) → i < length bs → separator (get_or bs i 0) ≡ false → word_length (drop i bs) ≡ suc (word_length (drop (i + 1) bs))
 word_goes_on bs i within inner = at_drop_more word_length bs i 0 within ∙ ap (λ (s : Bool). cond s 0 (suc (word_length (drop (i + 1) bs)))) inner
 
-pub word-ends : (bs : List ℕ) (i : ℕ) → i < length bs → separator (get_or bs i 0) ≡ true → word_length (drop i bs) ≡ 0
-word-ends bs i within outer = at_drop_more word_length bs i 0 within ∙ ap (λ (s : Bool). cond s 0 (suc (word_length (drop (i + 1) bs)))) outer
+pub word_ends : (bs : List ℕ) (i : ℕ) → i < length bs → separator (get_or bs i 0) ≡ true → word_length (drop i bs) ≡ 0
+word_ends bs i within outer = at_drop_more word_length bs i 0 within ∙ ap (λ (s : Bool). cond s 0 (suc (word_length (drop (i + 1) bs)))) outer
 
 pub word_past : (bs : List ℕ) (i : ℕ) → length bs ≤ i → word_length (drop i bs) ≡ 0
 word_past bs i past = at_drop_all word_length bs i past
@@ -30,8 +30,8 @@ pub word_short : (bs : List ℕ) → word_length bs ≤ length bs
 word_short [] = omega arith
 word_short (b ∷ bs) = cond_both (separator b) 0 (suc (word_length bs)) (λ n. n ≤ suc (length bs)) (λ _. omega arith) (λ _. omega (arith, word_short bs))
 
-pub word-within : (bs : List ℕ) (i : ℕ) → i ≤ length bs → i + word_length (drop i bs) ≤ length bs
-word-within bs i within = omega (arith, word_short (drop i bs), length-drop i bs)
+pub word_within : (bs : List ℕ) (i : ℕ) → i ≤ length bs → i + word_length (drop i bs) ≤ length bs
+word_within bs i within = omega (arith, word_short (drop i bs), length-drop i bs)
 
 -- bytes of which none parts fields
 abbrev pub Solid : List ℕ → Type 0
@@ -45,10 +45,10 @@ pub word_front : (ds after : List ℕ) → Solid ds → word_length after ≡ 0 
 word_front ds after solid ends = take_at ds after _ (sym (word_length_front ds after solid ends))
 
 -- what follows a word does not go on with it
-pub after-word : (bs : List ℕ) → word_length (drop (word_length bs) bs) ≡ 0
-after-word [] = refl
-after-word (b ∷ bs) =
-    cond_both (separator b) 0 (suc (word_length bs)) (λ n. (n ≡ word_length (b ∷ bs)) → word_length (drop n (b ∷ bs)) ≡ 0) (λ yes-it-is e. sym e) (λ _ _. after-word bs) refl
+pub after_word : (bs : List ℕ) → word_length (drop (word_length bs) bs) ≡ 0
+after_word [] = refl
+after_word (b ∷ bs) =
+    cond_both (separator b) 0 (suc (word_length bs)) (λ n. (n ≡ word_length (b ∷ bs)) → word_length (drop n (b ∷ bs)) ≡ 0) (λ yes-it-is e. sym e) (λ _ _. after_word bs) refl
 
 pub starts_then : (b : ℕ) (bs : List ℕ) → starts_with b bs ≡ true → bs ≡ b ∷ drop 1 bs
 starts_then b [] found = absurd (false≢true found)

@@ -1,6 +1,6 @@
 use Rattle.std.proofs.Common.{sym, refl, arith}
 use Rattle.book.specs.Runs.{none}
-use Rattle.book.proofs.Running.{ran, rest_more, run-accepted, run_more}
+use Rattle.book.proofs.Running.{ran, rest_more, run_accepted, run_more}
 use Rattle.book.proofs.runner.run.Goals as goal
 
 pub loop-i-init : goal.loop-i-init
@@ -14,4 +14,4 @@ pub returns : goal.returns
 returns g c =
     let m = g.E.Engine.meaning c.args.engine.now in
     let free = sym c.if-not-all_free.ensures in
-    (run-accepted _ _ m c.if-answers-calls.false free, ran _ m _ c.args.calls.now c.args.answers.now c.loop-i.answers c.loop-i.i (omega arith) (omega arith) (g.met.E.Engine.sized c.args.engine.now) free (g.met.E.Engine.progress c.loop-i.engine) c.loop-i.invariant.0 c.loop-i.invariant.1)
+    (run_accepted _ _ m c.if-answers-calls.false free, ran _ m _ c.args.calls.now c.args.answers.now c.loop-i.answers c.loop-i.i (omega arith) (omega arith) (g.met.E.Engine.sized c.args.engine.now) free (g.met.E.Engine.progress c.loop-i.engine) c.loop-i.invariant.0 c.loop-i.invariant.1)

@@ -1,6 +1,6 @@
 use Rattle.std.proofs.Common.{arith}
 use Rattle.std.proofs.lemmas.Bool.{ne_eqb, eq-eqb, or_from, or_left, or_right}
-use Rattle.sheet.proofs.Words.{word_goes_on, word-ends, word_past}
+use Rattle.sheet.proofs.Words.{word_goes_on, word_ends, word_past}
 use Rattle.sheet.proofs.field.word_end.Goals as goal
 
 pub loop-end-preserved : goal.loop-end-preserved
@@ -11,12 +11,12 @@ loop-end-preserved c =
 
 pub returns-else-sheet-end-ne10 : goal.returns-else-sheet-end-ne10
 returns-else-sheet-end-ne10 c =
-    let ends = word-ends c.args.sheet.now c.loop-end.end c.loop-end-test.true (or_right _ _ (eq-eqb _ 10 c.if-sheet-end-ne10.false)) in
+    let ends = word_ends c.args.sheet.now c.loop-end.end c.loop-end-test.true (or_right _ _ (eq-eqb _ 10 c.if-sheet-end-ne10.false)) in
     record { within = omega arith; value = omega (arith, ends) }
 
 pub returns-else-sheet-end-ne32 : goal.returns-else-sheet-end-ne32
 returns-else-sheet-end-ne32 c =
-    let ends = word-ends c.args.sheet.now c.loop-end.end c.loop-end-test.true (or_left _ _ (eq-eqb _ 32 c.if-sheet-end-ne32.false)) in
+    let ends = word_ends c.args.sheet.now c.loop-end.end c.loop-end-test.true (or_left _ _ (eq-eqb _ 32 c.if-sheet-end-ne32.false)) in
     record { within = omega arith; value = omega (arith, ends) }
 
 pub returns-after-loop-end : goal.returns-after-loop-end

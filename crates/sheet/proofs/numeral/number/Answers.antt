@@ -2,14 +2,14 @@ use Rattle.std.proofs.Common.{get_or, sym, ap, ◌∙◌, subst, arith}
 use Rattle.std.proofs.lemmas.List.{take_all}
 use Rattle.std.proofs.lemmas.Bool.{both_ways}
 use Rattle.std.specs.Str.Parse.{AllDigits, digits_value}
-use Rattle.sheet.proofs.Decimals.{digit_parts, reads-value, shape_parts, shape_spelled, spelled-digit, spelled_out, summed_more, summed_short}
+use Rattle.sheet.proofs.Decimals.{digit_parts, reads_value, shape_parts, shape_spelled, spelled_digit, spelled_out, summed_more, summed_short}
 use Rattle.sheet.proofs.numeral.number.Goals as goal
 
 pub returns-then-not-has_number_shape : goal.returns-then-not-has_number_shape
 returns-then-not-has_number_shape c n fits e = both_ways _ (sym c.if-not-has_number_shape.ensures) (shape_spelled _ n (spelled_out _ n fits e))
 
 pub returns-then-not-is_digit : goal.returns-then-not-is_digit
-returns-then-not-is_digit c n fits e = both_ways _ (sym c.if-not-is_digit.ensures) (spelled-digit _ n _ (spelled_out _ n fits e) c.loop-b-test.true)
+returns-then-not-is_digit c n fits e = both_ways _ (sym c.if-not-is_digit.ensures) (spelled_digit _ n _ (spelled_out _ n fits e) c.loop-b-test.true)
 
 pub overflow_mul-value : goal.overflow_mul-value
 overflow_mul-value c =
@@ -31,4 +31,4 @@ pub returns : goal.returns
 returns c =
     let all = take_all c.loop-b.b-index c.args.digits.now (omega arith) in
     rw c.ok.ensures.value
-    (reads-value _ _ _ (sym c.if-not-has_number_shape.ensures) (subst (AllDigits 10) all c.loop-b.invariant.digits) (c.loop-b.invariant.means ∙ ap (digits_value 10) all) c.try_from.ensures)
+    (reads_value _ _ _ (sym c.if-not-has_number_shape.ensures) (subst (AllDigits 10) all c.loop-b.invariant.digits) (c.loop-b.invariant.means ∙ ap (digits_value 10) all) c.try_from.ensures)

@@ -4,7 +4,7 @@ use Rattle.std.proofs.lemmas.Bool.{eqb-false, eqb-true}
 use Rattle.book.specs.Distinct.{distinct}
 use Rattle.book.specs.Writes.{with_put}
 use Rattle.book.specs.WriteSets.{entries}
-use Rattle.book.proofs.WriteSearch.{distinct-put, front_within, new_put, room-found, room_new, room-none, take_set_front}
+use Rattle.book.proofs.WriteSearch.{distinct-put, front_within, new_put, room_found, room_new, room_none, take_set_front}
 use Rattle.book.proofs.write_set.WriteSet.put.Goals as goal
 use Rattle.book.proofs.write_set.WriteSet.put.Goals.{Else-is_full, In-Some}
 
@@ -28,13 +28,13 @@ invariant_of-self c =
     record { whole = length-set c.args.self.now.writes c.in-Some.found c.args.write ∙ c.args.self.now.whole; few = c.args.self.now.few; apart = ap distinct (replaced (goal.at.invariant_of-self c).In-Some) ∙ distinct-put c.args.write (entries c.args.self.now) c.args.self.now.apart }
 
 pub returns-in-Some : goal.returns-in-Some
-returns-in-Some c = record { room = room-found c.args.write.cell (entries c.args.self.now) _ (c.in-Some.ensures.1 c.args.write); after = replaced (goal.at.returns-in-Some c).In-Some }
+returns-in-Some c = record { room = room_found c.args.write.cell (entries c.args.self.now) _ (c.in-Some.ensures.1 c.args.write); after = replaced (goal.at.returns-in-Some c).In-Some }
 
 pub returns-then-is_full : goal.returns-then-is_full
 returns-then-is_full c =
     let long = c.args.self.now.whole in
     let full = eqb-true _ _ (sym c.if-is_full.ensures) in
-    record { room = room-none _ (entries c.args.self.now) c.in_default.ensures (omega (arith, full, length-take c.args.self.now.len c.args.self.now.writes)); after = refl }
+    record { room = room_none _ (entries c.args.self.now) c.in_default.ensures (omega (arith, full, length-take c.args.self.now.len c.args.self.now.writes)); after = refl }
 
 pub invariant_of-self-2 : goal.invariant_of-self-2
 invariant_of-self-2 c =

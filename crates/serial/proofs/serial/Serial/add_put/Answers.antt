@@ -3,7 +3,7 @@ use Rattle.std.proofs.lemmas.Bool.{cond-true}
 use Rattle.book.specs.Calls.{has_made}
 use Rattle.serial.specs.declared.state.Stage.{Stage}
 use Rattle.serial.specs.States.{latest, stage_sight}
-use Rattle.serial.proofs.Stepping.{answered_sound, put-room, puts_now}
+use Rattle.serial.proofs.Stepping.{answered_sound, put_room, puts_now}
 use Rattle.serial.proofs.serial.Serial.add_put.Goals as goal
 use Rattle.serial.specs.Laws.{sound_of}
 
@@ -16,5 +16,5 @@ invariant_of-self c =
 pub returns : goal.returns
 returns c =
     let e = c.args.self.now in
-    let room = c.put.ensures.room ∙ put-room e.state (sound_of e) c.args.turn c.requires.turn c.args.write c.requires.asked in
+    let room = c.put.ensures.room ∙ put_room e.state (sound_of e) c.args.turn c.requires.turn c.args.write c.requires.asked in
     puts_now e.state (sound_of e) c.args.turn c.requires.turn c.args.write c.put.new.self c.requires.asked (c.put.ensures.after ∙ cond-true c.put.result _ _ room)

@@ -1,12 +1,12 @@
 use Rattle.std.proofs.Common.{sym, subst}
-use Rattle.serial.proofs.Stepping.{opens_now, some-waits, steps_to, taken_sound}
+use Rattle.serial.proofs.Stepping.{opens_now, some_waits, steps_to, taken_sound}
 use Rattle.serial.proofs.serial.Serial.take_turn.Goals as goal
 use Rattle.serial.specs.Laws.{Sound, sound_of}
 
 pub unreachable-requires : goal.unreachable-requires
 unreachable-requires c =
     let e = c.args.self.now in
-    some-waits e.state (sound_of e) c.requires.free c.args.seat c.requires.busy c.in_default.is
+    some_waits e.state (sound_of e) c.requires.free c.args.seat c.requires.busy c.in_default.is
 
 pub invariant_of-self : goal.invariant_of-self
 invariant_of-self c =

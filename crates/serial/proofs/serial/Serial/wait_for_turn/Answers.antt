@@ -1,4 +1,4 @@
-use Rattle.serial.proofs.Accepting.{opening_sound, opening-waits}
+use Rattle.serial.proofs.Accepting.{opening_sound, opening_waits}
 use Rattle.serial.proofs.serial.Serial.wait_for_turn.Goals as goal
 use Rattle.serial.specs.Laws.{sound_of}
 
@@ -8,4 +8,4 @@ invariant_of-self c =
     record { cells = s.cells; count = s.count; seats = s.seats; within = s.within; fits = s.fits; room = s.room }
 
 pub returns : goal.returns
-returns c = opening-waits c.args.self.now.state (sound_of c.args.self.now) c.args.kind c.args.seat c.requires
+returns c = opening_waits c.args.self.now.state (sound_of c.args.self.now) c.args.kind c.args.seat c.requires
