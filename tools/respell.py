@@ -1,7 +1,7 @@
 #!/usr/bin/env python3
 """Respells the names that this repository itself defines in specs/ and proofs/, once, at the top, after the kit's own
-script for an older Rattle has run: words in snake case, as `seat_of` for seatOf and `run_more` for run-more. A dash stays where
-it joins the names of two definitions, as in `write_set-applied`. Names of src/, generated names and strings stay.
+script for an older Rattle has run: words in snake case, as `seat_of` for seatOf and `run_more` for run-more. A dash stays
+where it joins the names of two definitions, as in `write_set-applied`. Names of src/, generated names and strings stay.
 
 usage: python3 tools/respell.py            rewrites the files below crates/
        python3 tools/respell.py --list     prints old and new, and names that would fall together, and writes nothing
@@ -24,7 +24,8 @@ CHOSEN = {
     "digit-value": "value_of_digit",
 }
 # Lemmas named after two definitions, which a dash joins.
-JOINED = {"applied-put", "distinct-put", "written-put", "writeSet-applied", "writeSet-written"}
+JOINED = {"applied-put", "distinct-put", "written-put"}
+JOINED |= {"writeSet-applied", "writeSet-written", "write_set-applied", "write_set-written"}
 # a name right after `c.` is one that the check generates
 TOKEN = re.compile(r"(?<![\w'\-·])(?<!\Wc\.)[A-Za-z][\w'\-]*")
 HEAD = re.compile(r"^\s*(?:pub |abbrev |unfoldable |data |record |ruleset )*([A-Za-z][\w'\-]*)(?= *:)")

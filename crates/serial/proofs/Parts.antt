@@ -1,4 +1,4 @@
--- The parts of the seats in the meaning, one by one.
+-- Which refusal a call meets, told by the part of its seat.
 use Rattle.std.specs.Prelude.{◌≡◌, ◌<◌, length, Option, nat_le}
 use Rattle.std.proofs.Common.{sym, ap, ◌∙◌}
 use Rattle.std.proofs.lemmas.Bool.{cond-false, lt-leb}

@@ -1,4 +1,4 @@
--- Some busy seat of the serial engine moves: the one that has the turn, or any where none has it.
+-- What a step finds: a seat without the turn waits, and the one that has it is busy.
 use Rattle.std.specs.Prelude.{◌≡◌, ℕ, true, not, ◌&&◌, is_some, Some, None, Option, ◌≢◌, refl}
 use Rattle.std.proofs.Common.{sym, ap, ◌∙◌, arith}
 use Rattle.std.proofs.lemmas.Bool.{ne_eqb, not-false}
