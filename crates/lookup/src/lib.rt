@@ -19,11 +19,12 @@ pub fn last_match<T: Entry>(entries: &[T], question: &T::Question) -> Option<usi
     ensures place { result ≡ last_match (λ x. T.suits x question.now) entries.now }
     ensures last { IsLast (λ x. T.suits x question.now) entries.now result }
 {
-    let mut found = None;
-    for (i, entry) in entries.iter().enumerate() {
-        if entry.suits(question) {
-            found = Some(i);
-        }
-    }
-    found
+    last_suiting(entries, question)
+}
+
+// The search itself. Its contract is the law alone, which only one place can keep.
+fn last_suiting<T: Entry>(entries: &[T], question: &T::Question) -> Option<usize>
+    ensures { IsLast (λ x. T.suits x question.now) entries.now result }
+{
+    entries.iter().rposition(|entry| entry.suits(question))
 }
