@@ -1,11 +1,15 @@
 -- In a write set the last entry of a cell is its only one.
-use Rattle.std.proofs.Common.{◌≡◌, ℕ, zero, suc, ◌<◌, ◌≤◌, Bool, true, false, cond, not, ◌||◌, eqb, ltb, List, [], ◌∷◌, ◌++◌, length, take, set, is_some, Some, None, Option, sym, refl, ap, ◌∙◌, subst, inl, inr, arith, length-take}
+use Rattle.std.proofs.Common.{◌≡◌, ℕ, ◌<◌, ◌≤◌, Bool, true, false, cond, not, ◌||◌, eqb, ltb, List, [], ◌∷◌, ◌++◌, length, is_some, Some, None, Ok, Err, OnOk, OnErr, Option, Result, sym, refl, ap, ◌∙◌, subst, inl, inr, arith}
 use Rattle.std.proofs.lemmas.Bool.{and_from, and_parts, cases_Bool, cond-false, cond-true, eqb-false, eqb-true, le-ltb, lt-ltb, ne_eqb, not-true, true≢false}
+use Rattle.fixed_vec.specs.Listed.{Listed}
+use Rattle.fixed_vec.specs.declared.Full.{Full}
 use Rattle.lookup.specs.Last.{last_match, tail_first}
+use Rattle.std.specs.Result.{result_or}
+use Rattle.book.specs.declared.refusal.Refusal.TheVariants.{WriteSetFull}
 use Rattle.book.specs.Distinct.{distinct}
 use Rattle.book.specs.Sizes.{max_writes}
 use Rattle.book.specs.Writes.{CellValue, with_put, Write, written}
-use Rattle.book.specs.WriteSets.{has_room, Position}
+use Rattle.book.specs.WriteSets.{has_room, Position, Puts}
 
 is_none : (x : Option CellValue) → is_some x ≡ false → x ≡ None
 is_none None e = refl
@@ -67,23 +71,21 @@ new_put p (w ∷ ws) none =
       | inr other ↦ cond-false (eqb w.cell p.cell) (p ∷ ws) (w ∷ with_put p ws) other ∙ ap (λ (l : List Write). w ∷ l) (new_put p ws (sym (cond-false (eqb w.cell p.cell) (Some w.value) (written p.cell ws) other) ∙ none))
     ]
 
--- the front of an array with one place changed
-pub take_set_front : {X : Type 0} (n : ℕ) (l : List X) (i : ℕ) (a : X) → i < n → take n (set l i a) ≡ set (take n l) i a
-take_set_front zero l i a within = absurd (omega arith)
-take_set_front (suc n) [] i a within = refl
-take_set_front (suc n) (x ∷ l) zero a within = refl
-take_set_front {X} (suc n) (x ∷ l) (suc i) a within = ap (λ (t : List X). x ∷ t) (take_set_front n l i a (omega arith))
-
--- an entry's place lies within the front
-pub front_within : (n i : ℕ) (l : List Write) → i < length (take n l) → i < n
-front_within n i l within = omega (arith, length-take n l)
-
 -- what a put comes to, by whether the cell was put
-pub room_found : (cell : ℕ) (ws : List Write) (v : CellValue) → written cell ws ≡ Some v → true ≡ has_room cell ws
-room_found cell ws v found = sym (ap (λ x. is_some x || ltb (length ws) max_writes) found)
+pub room_found : (cell : ℕ) (ws : List Write) (v : CellValue) → written cell ws ≡ Some v → has_room cell ws ≡ true
+room_found cell ws v found = ap (λ x. is_some x || ltb (length ws) max_writes) found
 
-pub room_new : (cell : ℕ) (ws : List Write) → written cell ws ≡ None → length ws < max_writes → true ≡ has_room cell ws
-room_new cell ws none few = sym (ap (λ x. is_some x || ltb (length ws) max_writes) none ∙ lt-ltb (length ws) max_writes few)
+pub room_new : (cell : ℕ) (ws : List Write) → written cell ws ≡ None → length ws < max_writes → has_room cell ws ≡ true
+room_new cell ws none few = ap (λ x. is_some x || ltb (length ws) max_writes) none ∙ lt-ltb (length ws) max_writes few
 
-pub room_none : (cell : ℕ) (ws : List Write) → written cell ws ≡ None → max_writes ≤ length ws → false ≡ has_room cell ws
-room_none cell ws none full = sym (ap (λ x. is_some x || ltb (length ws) max_writes) none ∙ le-ltb (length ws) max_writes full)
+pub room_none : (cell : ℕ) (ws : List Write) → written cell ws ≡ None → max_writes ≤ length ws → has_room cell ws ≡ false
+room_none cell ws none full = ap (λ x. is_some x || ltb (length ws) max_writes) none ∙ le-ltb (length ws) max_writes full
+
+-- a write of a new cell goes behind the others, or nothing changes
+pub pushed_apart : (r : Result (Unit {0}) Full) (ws ws' : Listed Write) (p : Write) → written p.cell ws.items ≡ None → distinct ws.items ≡ true → OnOk r (ws'.items ≡ ws.items ++ (p ∷ [])) → OnErr r (ws' ≡ ws) → distinct ws'.items ≡ true
+pushed_apart (Ok _) ws ws' p none apart added same = ap distinct (added ∙ sym (new_put p ws.items none)) ∙ distinct-put p ws.items apart
+pushed_apart (Err _) ws ws' p none apart added same = ap (λ v. distinct v.items) same ∙ apart
+
+pub pushed_puts : (r : Result (Unit {0}) Full) (ws ws' : Listed Write) (p : Write) → written p.cell ws.items ≡ None → OnOk r (length ws.items < max_writes) → OnErr r (length ws.items ≡ max_writes) → OnOk r (ws'.items ≡ ws.items ++ (p ∷ [])) → OnErr r (ws' ≡ ws) → Puts p ws.items ws'.items (result_or r (Err WriteSetFull))
+pushed_puts (Ok _) ws ws' p none room full added same = (room_new p.cell ws.items none room, added ∙ sym (new_put p ws.items none))
+pushed_puts (Err _) ws ws' p none room full added same = (refl, room_none p.cell ws.items none (omega (arith, full)), ap (λ v. v.items) same)

@@ -36,6 +36,11 @@ abbrev pub request_answer : Result (Unit {0}) Refusal → Answer
 request_answer (Ok _) = Accepted
 request_answer (Err refusal) = Declined refusal
 
+-- the answer to a step
+abbrev pub step_answer : Result (Word × ℕ) Refusal → Answer
+step_answer (Ok (word, number)) = Stepped word number
+step_answer (Err refusal) = Declined refusal
+
 -- this holds where the call was declined
 abbrev pub IfDeclined : Answer → Type 0 → Type 0
 IfDeclined Accepted same = Unit {0}

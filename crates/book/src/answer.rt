@@ -1,4 +1,7 @@
 // What a book answers.
+ghost use Rattle.std.specs.Prelude.{◌≡◌};
+ghost use Rattle.book.specs.Engines.{request_answer, step_answer};
+
 use crate::refusal::Refusal;
 
 // The word of a step's answer. It comes with a number: the view's at `Opened`, a value at `Told`, the new number of the
@@ -25,6 +28,30 @@ pub enum Answer {
     Accepted,
     Stepped(Word, u32),
     Declined(Refusal),
+}
+
+// The answer to a request.
+impl From<Result<(), Refusal>> for Answer {
+    ghost from_gives = { λ r answer. answer ≡ request_answer r };
+
+    fn from(r: Result<(), Refusal>) -> Answer {
+        match r {
+            Ok(()) => Answer::Accepted,
+            Err(refusal) => Answer::Declined(refusal),
+        }
+    }
+}
+
+// The answer to a step.
+impl From<Result<(Word, u32), Refusal>> for Answer {
+    ghost from_gives = { λ r answer. answer ≡ step_answer r };
+
+    fn from(r: Result<(Word, u32), Refusal>) -> Answer {
+        match r {
+            Ok((word, number)) => Answer::Stepped(word, number),
+            Err(refusal) => Answer::Declined(refusal),
+        }
+    }
 }
 
 // What a seat is doing.

@@ -1,5 +1,5 @@
 ghost use Rattle.std.specs.Prelude.{◌≡◌, length, Some, None, MatchResult};
-ghost use Rattle.book.specs.Engines.{IfDeclined, none_open, request_answer, run_refusal, says_free};
+ghost use Rattle.book.specs.Engines.{IfDeclined, none_open, run_refusal, says_free, seat_standing};
 ghost use Rattle.book.specs.Ran.{Ran};
 ghost use Rattle.book.specs.Runs.{Does};
 
@@ -8,52 +8,31 @@ use crate::call::Call;
 use crate::engine::{Engine, SEATS};
 use crate::refusal::Refusal;
 
-// The answer to a request.
-fn accepted(r: Result<(), Refusal>) -> Answer
-    ensures { result ≡ request_answer r }
-{
-    match r {
-        Ok(()) => Answer::Accepted,
-        Err(refusal) => Answer::Declined(refusal),
-    }
-}
-
 // Makes one call on an engine.
 pub fn call_on<E: Engine>(engine: &mut E, call: Call) -> Answer
     ensures does { Does E.bound (E.meaning engine.old) call result (E.meaning engine.new) }
     ensures unchanged { IfDeclined result (engine.new ≡ engine.old) }
 {
     match call {
-        Call::Open { kind, seat } => accepted(engine.open(kind, seat)),
-        Call::Get { seat, cell } => accepted(engine.get(seat, cell)),
-        Call::Put { seat, cell, value } => accepted(engine.put(seat, cell, value)),
-        Call::End { seat } => accepted(engine.end(seat)),
-        Call::Step { seat } => match engine.step(seat) {
-            Ok((word, number)) => Answer::Stepped(word, number),
-            Err(refusal) => Answer::Declined(refusal),
-        },
+        Call::Open { kind, seat } => engine.open(kind, seat).into(),
+        Call::Get { seat, cell } => engine.get(seat, cell).into(),
+        Call::Put { seat, cell, value } => engine.put(seat, cell, value).into(),
+        Call::End { seat } => engine.end(seat).into(),
+        Call::Step { seat } => engine.step(seat).into(),
     }
 }
 
-fn says_free(standing: Result<Standing, Refusal>) -> bool
-    ensures { result ≡ says_free standing }
+fn is_free<E: Engine>(engine: &E, seat: u32) -> bool
+    ensures { result ≡ says_free (seat_standing (E.meaning engine.now) seat) }
 {
-    match standing {
-        Ok(Standing::Free) => true,
-        _ => false,
-    }
+    engine.standing(seat) == Ok(Standing::Free)
 }
 
 // Whether no seat of the engine carries a transaction.
 fn all_free<E: Engine>(engine: &E) -> bool
     ensures { result ≡ none_open (E.meaning engine.now).seats }
 {
-    for seat in 0..SEATS {
-        if !says_free(engine.standing(seat)) {
-            return false;
-        }
-    }
-    true
+    (0..SEATS).all(|seat| is_free(engine, seat))
 }
 
 // Makes the calls one after the other and writes each answer into its place. Declined, with nothing touched, where there

@@ -1,7 +1,7 @@
 // A list of at most so many elements, which lie in the value itself: it takes no memory but its own, and it can be copied.
 #![tactic(auto)]
 
-ghost use Rattle.std.specs.Prelude.{◌≡◌, ◌<◌, ◌≤◌, [], ◌∷◌, ◌++◌, length, OnErr, OnOk, IsOk, ◌↔◌, MatchResult, slice_set};
+ghost use Rattle.std.specs.Prelude.{◌≡◌, ◌<◌, ◌≤◌, [], ◌∷◌, ◌++◌, length, OnErr, OnOk, MatchResult, slice_set};
 
 use std::marker::Model;
 
@@ -78,8 +78,9 @@ impl<T: Copy, const N: usize> FixedVec<T, N> {
 
     // Adds an element at the end, if there is a place for it.
     pub fn push(&mut self, element: T) -> Result<(), Full>
-        ensures room { IsOk result ↔ (length self.old.items < N) }
+        ensures room { OnOk result (length self.old.items < N) }
         ensures added { OnOk result (self.new.items ≡ self.old.items ++ element ∷ []) }
+        ensures full { OnErr result (length self.old.items ≡ N) }
         ensures unchanged { OnErr result (self.new ≡ self.old) }
     {
         if self.len == N {

@@ -1,11 +1,13 @@
-ghost use Rattle.std.specs.Prelude.{◌≡◌, ◌<◌, [], length, get_or, if◌then◌else◌, ◌==◌};
+ghost use Rattle.std.specs.Prelude.{◌≡◌, [], length, ◌==◌, nat_le};
 ghost use Rattle.book.specs.Sizes.{max_writes};
-ghost use Rattle.book.specs.WriteSets.{Position, entries, has_room, lacks_room};
-ghost use Rattle.book.specs.Writes.{with_put, written};
+ghost use Rattle.book.specs.WriteSets.{Position, Puts, entries, lacks_room};
+ghost use Rattle.book.specs.Writes.{written};
 
 use super::{MAX_WRITES, WriteSet};
 use crate::call::Value;
+use crate::refusal::Refusal;
 use crate::write::Write;
+use fixed_vec::FixedVec;
 use lookup::{Entry, last_match};
 
 // A write is looked up by its cell.
@@ -24,15 +26,14 @@ impl WriteSet {
         ensures { entries result ≡ [] }
     {
         WriteSet {
-            writes: [Write { cell: 0, value: 0 }; MAX_WRITES],
-            len: 0,
+            writes: FixedVec::new(Write { cell: 0, value: 0 }),
         }
     }
 
     pub fn as_slice(&self) -> &[Write]
         ensures { result.now ≡ entries self.now }
     {
-        &self.writes[0..self.len]
+        self.writes.as_slice()
     }
 
     // Where the cell's entry stands, if the cell was put.
@@ -47,20 +48,13 @@ impl WriteSet {
         ensures { result ≡ written cell (entries self.now) }
     {
         let found = self.position(cell)?;
-        Some(self.value_at(found))
-    }
-
-    fn value_at(&self, place: usize) -> Value
-        requires { place < length self.now.writes }
-        ensures { result ≡ (get_or self.now.writes place (record { cell = 0; value = 0 })).value }
-    {
-        self.writes[place].value
+        Some(self.as_slice()[found].value)
     }
 
     fn is_full(&self) -> bool
-        ensures { result ≡ (self.now.len == max_writes) }
+        ensures { result ≡ nat_le max_writes (length (entries self.now)) }
     {
-        self.len == MAX_WRITES
+        self.writes.len() == MAX_WRITES
     }
 
     // Whether a put of the cell would be one cell too many.
@@ -71,19 +65,13 @@ impl WriteSet {
     }
 
     // Adds a put, if there is room for its cell.
-    pub fn put(&mut self, write: Write) -> bool
-        ensures room { result ≡ has_room write.cell (entries self.old) }
-        ensures after { entries self.new ≡ (if result then with_put write (entries self.old) else entries self.old) }
+    pub fn put(&mut self, write: Write) -> Result<(), Refusal>
+        ensures { Puts write (entries self.old) (entries self.new) result }
     {
         if let Some(found) = self.position(write.cell) {
-            self.writes[found] = write;
-            return true;
+            self.writes.set(found, write);
+            return Ok(());
         }
-        if self.is_full() {
-            return false;
-        }
-        self.writes[self.len] = write;
-        self.len += 1;
-        true
+        self.writes.push(write).or(Err(Refusal::WriteSetFull))
     }
 }
