@@ -23,27 +23,30 @@ pub trait Engine: Sized {
     // The most steps, but for those that wait, that one request takes.
     const BOUND: u32;
 
-    ghost bound: { ℕ };
+    ghost BOUND: { ℕ };
 
     ghost meaning: { Self → Meaning };
 
     fn step_bound() -> u32
-        ensures { result ≡ bound };
+        ensures { result ≡ BOUND }
+    {
+        Self::BOUND
+    }
 
     fn start(version: u32, cells: &[Value]) -> Result<Self, Refusal>
         ensures { Starts meaning version cells.now result };
 
     fn open(&mut self, kind: Kind, seat: u32) -> Result<(), Refusal>
-        ensures { Asks bound (meaning self.old) (Open kind seat) (meaning self.new) (self.new ≡ self.old) result };
+        ensures { Asks BOUND (meaning self.old) (Open kind seat) (meaning self.new) (self.new ≡ self.old) result };
 
     fn get(&mut self, seat: u32, cell: u32) -> Result<(), Refusal>
-        ensures { Asks bound (meaning self.old) (Get seat cell) (meaning self.new) (self.new ≡ self.old) result };
+        ensures { Asks BOUND (meaning self.old) (Get seat cell) (meaning self.new) (self.new ≡ self.old) result };
 
     fn put(&mut self, seat: u32, cell: u32, value: Value) -> Result<(), Refusal>
-        ensures { Asks bound (meaning self.old) (Put seat cell value) (meaning self.new) (self.new ≡ self.old) result };
+        ensures { Asks BOUND (meaning self.old) (Put seat cell value) (meaning self.new) (self.new ≡ self.old) result };
 
     fn end(&mut self, seat: u32) -> Result<(), Refusal>
-        ensures { Asks bound (meaning self.old) (End seat) (meaning self.new) (self.new ≡ self.old) result };
+        ensures { Asks BOUND (meaning self.old) (End seat) (meaning self.new) (self.new ≡ self.old) result };
 
     // One step of a busy seat: a word with its number.
     fn step(&mut self, seat: u32) -> Result<(Word, u32), Refusal>

@@ -10,7 +10,7 @@ use crate::refusal::Refusal;
 
 // Makes one call on an engine.
 pub fn call_on<E: Engine>(engine: &mut E, call: Call) -> Answer
-    ensures does { Does E.bound (E.meaning engine.old) call result (E.meaning engine.new) }
+    ensures does { Does E.BOUND (E.meaning engine.old) call result (E.meaning engine.new) }
     ensures unchanged { IfDeclined result (engine.new ≡ engine.old) }
 {
     match call {
@@ -38,7 +38,7 @@ fn all_free<E: Engine>(engine: &E) -> bool
 // Makes the calls one after the other and writes each answer into its place. Declined, with nothing touched, where there
 // is no room for the answers or a seat is not free.
 pub fn run<E: Engine>(engine: &mut E, calls: &[Call], answers: &mut [Answer]) -> Result<(), Refusal>
-    ensures { MatchResult result (λ _. (run_refusal (length calls.now) (length answers.old) (E.meaning engine.old) ≡ None) × Ran E.bound (E.meaning engine.old) calls.now answers.old answers.new (E.meaning engine.new)) (λ refusal. (run_refusal (length calls.now) (length answers.old) (E.meaning engine.old) ≡ Some refusal) × (engine.new ≡ engine.old) × (answers.new ≡ answers.old)) }
+    ensures { MatchResult result (λ _. (run_refusal (length calls.now) (length answers.old) (E.meaning engine.old) ≡ None) × Ran E.BOUND (E.meaning engine.old) calls.now answers.old answers.new (E.meaning engine.new)) (λ refusal. (run_refusal (length calls.now) (length answers.old) (E.meaning engine.old) ≡ Some refusal) × (engine.new ≡ engine.old) × (answers.new ≡ answers.old)) }
 {
     if answers.len() < calls.len() {
         return Err(Refusal::ListTooShort);
