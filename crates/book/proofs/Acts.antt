@@ -1,5 +1,6 @@
 -- Each call keeps the relation between meaning and history.
 use Rattle.std.proofs.Common.{◌≡◌, ℕ, ◌+◌, ◌<◌, ◌≤◌, Bool, eqb, List, ◌∷◌, get_or, Some, None, Option, unwrap_or, sym, refl, ap, ◌∙◌, subst, inl, inr, ⊎_elim, arith}
+use Rattle.std.proofs.lemmas.Option.{none-some, same_Some}
 use Rattle.std.proofs.lemmas.Bool.{cond-true, eq-eqb}
 use Rattle.book.specs.declared.call.Call.TheVariants as calls
 use Rattle.book.specs.Calls.{seat_of}
@@ -11,15 +12,12 @@ use Rattle.book.specs.Replays.{base, made_as, opened_as, puts_of, snapshot, Star
 use Rattle.book.specs.Sizes.{seat_count}
 use Rattle.book.specs.Transactions.{current, going_on, place, Transaction, with_asked}
 use Rattle.book.specs.Writes.{applied, CellValue, with_put, Write, written}
-use Rattle.book.proofs.Extensions.{Extension, fixed_stays, making_event, opening_event, quiet, same_some, sees_stays, told_base}
+use Rattle.book.proofs.Extensions.{Extension, fixed_stays, making_event, opening_event, quiet, sees_stays, told_base}
 use Rattle.book.proofs.Growing.{Grown, grown}
 use Rattle.book.proofs.Places.{current_same, number_given, number_quiet}
 use Rattle.book.proofs.Snapshots.{snapshot_made}
 use Rattle.book.proofs.Tied.{Fixed, MadeFact, PartTied, Sees, SeatTied, Tied}
 use Rattle.book.proofs.WriteSets.{write_set, write_set-applied, write_set-written}
-
-no_number : (p : ℕ) → ◌≡◌ {A = Option ℕ} None (Some p) → ⊥
-no_number p e = let z : ◌≡◌ {A = ℕ} 0 1 = cc in omega arith
 
 pub not_same_request : (x y : Request) (r : Option Request) → r ≡ Some x → r ≡ Some y → (x ≡ y → ⊥) → ⊥
 not_same_request x y r p q apart = apart (cc)
@@ -39,8 +37,8 @@ quiet_grown bound start e h m m' part tied opens-none makes_none number cells ow
       own_seat = own;
       own_steps = few;
       new_told = tolds;
-      new_made = λ p makes. absurd (no_number p (sym makes_none ∙ makes));
-      new_opened = λ t v opens _. absurd (no_number v (sym opens-none ∙ opens));
+      new_made = λ p makes. absurd (none-some p (sym makes_none ∙ makes));
+      new_opened = λ t v opens _. absurd (none-some v (sym opens-none ∙ opens));
     }
 
 -- the transaction of an open seat
@@ -131,14 +129,14 @@ module _ (bound : ℕ) (start : Start) (h : History) (m : Meaning) (tied : Tied 
       refl within
     where
       not_told : moved ≡ told → ⊥
-      not_told e = let z : ◌≡◌ {A = ℕ} 0 1 = cc in omega arith
+      not_told e = cc
 
   -- told
   pub told_number : (cell : ℕ) → o.request ≡ Some (getting cell) → (number : ℕ) (cells : List CellValue) → o.sight ≡ view number cells → Fixed start (step told ∷ h) (place t) number × (cells ≡ snapshot start h number) × (number ≤ last_made start.number h)
   told_number cell asks number cells saw =
       let x = quiet start (step told) h refl refl in
       let sees = subst (Sees start h t) saw seat.sees in
-      let on : opened_as (place t) h ≡ Some number = ⊎_elim (λ a. absurd (not_same_request opening (getting cell) t.asks a.0 (seat.requests ∙ asks) (λ e. let z : ◌≡◌ {A = ℕ} 0 1 = cc in omega arith))) (λ b. b.1) sees.opens in
+      let on : opened_as (place t) h ≡ Some number = ⊎_elim (λ a. absurd (not_same_request opening (getting cell) t.asks a.0 (seat.requests ∙ asks) (λ e. cc))) (λ b. b.1) sees.opens in
       (fixed_stays bound start (step told) h x (place t) number (record { opened_on = on; makes_next = inl sees.makes_none; since_start = sees.since_start; till_now = sees.till_now }), sees.is_snapshot, sees.till_now)
 
   not_opening : (r : Request) → o.request ≡ Some r → (opening ≡ r → ⊥) → t.asks ≡ Some opening → ⊥
@@ -148,19 +146,16 @@ module _ (bound : ℕ) (start : Start) (h : History) (m : Meaning) (tied : Tied 
   not_ending r asks apart e = not_same_request ending r t.asks e (seat.requests ∙ asks) apart
 
   none_asked : ◌≡◌ {A = Option Request} None (Some opening) → ⊥
-  none_asked e = let z : ◌≡◌ {A = ℕ} 0 1 = cc in omega arith
+  none_asked e = cc
 
   pub tied_told : (cell : ℕ) → o.request ≡ Some (getting cell) → (number : ℕ) (cells : List CellValue) → o.sight ≡ view number cells → (owed : ℕ) → owed < o.owed → (w : ℕ → Bool) → Tied bound start (step told ∷ h) (with_seat m s (onward o None o.sight o.writes owed) w)
   tied_told cell asks number cells saw owed fewer w =
       let x = quiet start (step told) h refl refl in
       let part = onward o None o.sight o.writes owed in
-      let sees = view_stays start (step told) h t None t.puts o.sight x (number_quiet opened_number (place t) (step told) h refl) (number_quiet made_number (place t) (step told) h refl) (not_opening (getting cell) asks (λ e. let z : ◌≡◌ {A = ℕ} 0 1 = cc in omega arith)) (not_ending (getting cell) asks (λ e. let z : ◌≡◌ {A = ℕ} 0 1 = cc in omega arith)) none_asked seat.sees in
+      let sees = view_stays start (step told) h t None t.puts o.sight x (number_quiet opened_number (place t) (step told) h refl) (number_quiet made_number (place t) (step told) h refl) (not_opening (getting cell) asks (λ e. cc)) (not_ending (getting cell) asks (λ e. cc)) none_asked seat.sees in
       grown bound start (step told) h m (with_seat m s part w) part tied
-      (quiet_grown bound start (step told) h m (with_seat m s part w) part tied refl refl refl refl (subst (λ u. PartTied bound start (step told ∷ h) s u part) (sym (now_at told)) (own_tied told None t.puts o.writes o.sight owed refl x.last fewer seat.writes sees)) (few_after told refl (omega arith)) (λ u _ is-u. subst (λ (v : Transaction). (n : ℕ) × Fixed start (step told ∷ h) (place v) n) (same_one (sym is ∙ is-u)) (number, (told_number cell asks number cells saw).0)))
+      (quiet_grown bound start (step told) h m (with_seat m s part w) part tied refl refl refl refl (subst (λ u. PartTied bound start (step told ∷ h) s u part) (sym (now_at told)) (own_tied told None t.puts o.writes o.sight owed refl x.last fewer seat.writes sees)) (few_after told refl (omega arith)) (λ u _ is-u. subst (λ (v : Transaction). (n : ℕ) × Fixed start (step told ∷ h) (place v) n) (same_Some _ _ (sym is ∙ is-u)) (number, (told_number cell asks number cells saw).0)))
       refl within
-    where
-      same_one : {u : Transaction} → Some t ≡ Some u → t ≡ u
-      same_one {u} e = cc
 
   -- what was told is what the replay works out
   pub told_is_worked : (cell : ℕ) → o.request ≡ Some (getting cell) → (number : ℕ) (cells : List CellValue) → o.sight ≡ view number cells → tells o cells cell ≡ worked_answer start (step told ∷ h) told (current s h)
@@ -178,13 +173,13 @@ module _ (bound : ℕ) (start : Start) (h : History) (m : Meaning) (tied : Tied 
       let part = onward o None o.sight (with_put p o.writes) owed in
       let now-puts : with_asked t.asks t.puts ≡ p ∷ t.puts = ap (λ (r : Option Request). with_asked r t.puts) (seat.requests ∙ asks) in
       let now-t : current s (step put ∷ h) ≡ Some (Next None (p ∷ t.puts)) = now_at put ∙ ap (λ (ps : List Write). Some (Next None ps)) now-puts in
-      let sees = view_stays start (step put) h t None (p ∷ t.puts) o.sight x (number_quiet opened_number (place t) (step put) h refl) (number_quiet made_number (place t) (step put) h refl) (not_opening (putting p) asks (λ e. let z : ◌≡◌ {A = ℕ} 0 1 = cc in omega arith)) (not_ending (putting p) asks (λ e. let z : ◌≡◌ {A = ℕ} 0 1 = cc in omega arith)) none_asked seat.sees in
+      let sees = view_stays start (step put) h t None (p ∷ t.puts) o.sight x (number_quiet opened_number (place t) (step put) h refl) (number_quiet made_number (place t) (step put) h refl) (not_opening (putting p) asks (λ e. cc)) (not_ending (putting p) asks (λ e. cc)) none_asked seat.sees in
       grown bound start (step put) h m (with_seat m s part w) part tied
       (quiet_grown bound start (step put) h m (with_seat m s part w) part tied refl refl refl refl (subst (λ u. PartTied bound start (step put ∷ h) s u part) (sym now-t) (own_tied put None (p ∷ t.puts) (with_put p o.writes) o.sight owed refl x.last fewer (ap (with_put p) seat.writes) sees)) (few_after put refl (omega arith)) (λ u tells _. absurd (not_told tells)))
       refl within
     where
       not_told : put ≡ told → ⊥
-      not_told e = let z : ◌≡◌ {A = ℕ} 0 1 = cc in omega arith
+      not_told e = cc
 
   -- ended
   pub tied_ended : 0 < o.owed → (w : ℕ → Bool) → Tied bound start (step ended ∷ h) (with_seat m s None w)
@@ -194,7 +189,7 @@ module _ (bound : ℕ) (start : Start) (h : History) (m : Meaning) (tied : Tied 
       refl within
     where
       not_told : ended ≡ told → ⊥
-      not_told e = let z : ◌≡◌ {A = ℕ} 0 1 = cc in omega arith
+      not_told e = cc
 
   -- opened: the view that the seat has, or the latest cells
   record OpensOn (number : ℕ) (cells : List CellValue) : Type 0 where
@@ -258,23 +253,20 @@ module _ (bound : ℕ) (start : Start) (h : History) (m : Meaning) (tied : Tied 
         own_seat = subst (λ u. PartTied bound start (e ∷ h) s u part) (sym (now_at (opened number))) (own_tied (opened number) None t.puts o.writes (view number cells) owed refl x.last fewer seat.writes sees);
         own_steps = few_after (opened number) refl (omega arith);
         new_told = λ u tells _. absurd (not_told tells);
-        new_made = λ p makes. absurd (no_number p makes);
-        new_opened = λ u v opens is-u. subst (λ (y : Transaction). (last_made start.number y.before ≤ v) × (v ≤ last_made start.number h)) (same_one (sym is ∙ is-u)) (subst (λ (n : ℕ). (last_made start.number t.before ≤ n) × (n ≤ last_made start.number h)) (same_some (Some number) number v refl opens) (on.since_opening, on.till_now));
+        new_made = λ p makes. absurd (none-some p makes);
+        new_opened = λ u v opens is-u. subst (λ (y : Transaction). (last_made start.number y.before ≤ v) × (v ≤ last_made start.number h)) (same_Some _ _ (sym is ∙ is-u)) (subst (λ (n : ℕ). (last_made start.number t.before ≤ n) × (n ≤ last_made start.number h)) (same_Some number v opens) (on.since_opening, on.till_now));
       })
       refl within
     where
       not_told : opened number ≡ told → ⊥
-      not_told e = let z : ◌≡◌ {A = ℕ} 0 1 = cc in omega arith
-
-      same_one : {u : Transaction} → Some t ≡ Some u → t ≡ u
-      same_one {u} e = cc
+      not_told e = cc
 
   -- made
   pub tied_made : o.request ≡ Some ending → (cells : List CellValue) → o.sight ≡ view m.number cells → (owed : ℕ) → owed < o.owed → (w : ℕ → Bool) → Tied bound start (step (made (m.number + 1)) ∷ h) (committed m s o owed w)
   tied_made asks cells saw owed fewer w =
       let e = step (made (m.number + 1)) in
       let sees = subst (Sees start h t) saw seat.sees in
-      let on : opened_as (place t) h ≡ Some m.number = ⊎_elim (λ a. absurd (not_same_request opening ending t.asks a.0 (seat.requests ∙ asks) (λ q. let z : ◌≡◌ {A = ℕ} 0 1 = cc in omega arith))) (λ b. b.1) sees.opens in
+      let on : opened_as (place t) h ≡ Some m.number = ⊎_elim (λ a. absurd (not_same_request opening ending t.asks a.0 (seat.requests ∙ asks) (λ q. cc))) (λ b. b.1) sees.opens in
       let x = making_event start e h t m.number is sees.makes_none on refl refl last_is sees.since_start in
       let part = onward o (Some ending) (made-sight (m.number + 1)) o.writes owed in
       let gives = number_given made_number e h t (m.number + 1) refl is in
@@ -300,7 +292,7 @@ module _ (bound : ℕ) (start : Start) (h : History) (m : Meaning) (tied : Tied 
         new_made = λ p makes. (
           t,
           is,
-          subst (λ (n : ℕ). MadeFact start (e ∷ h) h t n) (same_some (Some (m.number + 1)) (m.number + 1) p refl makes) (record {
+          subst (λ (n : ℕ). MadeFact start (e ∷ h) h t n) (same_Some (m.number + 1) p makes) (record {
             counted_from_start = omega (arith, last_is, tied.rising);
             makes_once = gives;
             view_number = m.number;
@@ -308,12 +300,12 @@ module _ (bound : ℕ) (start : Start) (h : History) (m : Meaning) (tied : Tied 
             follows = refl;
           }),
         );
-        new_opened = λ u v opens _. absurd (no_number v opens);
+        new_opened = λ u v opens _. absurd (none-some v opens);
       })
       refl within
     where
       not_told : made (m.number + 1) ≡ told → ⊥
-      not_told q = let z : ◌≡◌ {A = ℕ} 0 1 = cc in omega arith
+      not_told q = cc
 
   -- what an opened and a made answer keep
   pub opened_extension : o.request ≡ Some opening → (number : ℕ) (cells : List CellValue) → MaySee m o (view number cells) → Extension start (step (opened number)) h
@@ -322,5 +314,5 @@ module _ (bound : ℕ) (start : Start) (h : History) (m : Meaning) (tied : Tied 
   pub made_extension : o.request ≡ Some ending → (cells : List CellValue) → o.sight ≡ view m.number cells → Extension start (step (made (m.number + 1))) h
   made_extension asks cells saw =
       let sees = subst (Sees start h t) saw seat.sees in
-      let on : opened_as (place t) h ≡ Some m.number = ⊎_elim (λ a. absurd (not_same_request opening ending t.asks a.0 (seat.requests ∙ asks) (λ q. let z : ◌≡◌ {A = ℕ} 0 1 = cc in omega arith))) (λ b. b.1) sees.opens in
+      let on : opened_as (place t) h ≡ Some m.number = ⊎_elim (λ a. absurd (not_same_request opening ending t.asks a.0 (seat.requests ∙ asks) (λ q. cc))) (λ b. b.1) sees.opens in
       making_event start (step (made (m.number + 1))) h t m.number is sees.makes_none on refl refl last_is sees.since_start

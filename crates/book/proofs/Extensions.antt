@@ -1,5 +1,6 @@
 -- What one more event keeps of everything that was before it.
 use Rattle.std.proofs.Common.{◌≡◌, ℕ, ◌+◌, ◌≤◌, false, eqb, ◌⊎◌, List, [], ◌∷◌, ◌++◌, get_or, Some, None, Option, unwrap_or, sym, refl, ap, ◌∙◌, subst, inl, inr, ⊎_elim, arith}
+use Rattle.std.proofs.lemmas.Option.{none-some, same_Some}
 use Rattle.std.proofs.lemmas.Bool.{cases_eq, cond-false}
 use Rattle.book.specs.Calls.{seat_of}
 use Rattle.book.specs.Histories.{accepted, declined, earlier, ended, Event, Heard, History, last_made, made, made_number, moved, newest, opened, opened_number, put, steps_taken, told, waited}
@@ -32,16 +33,10 @@ quiet start e h opens-none makes_none = record {
   others_made = λ s t _ _. number_quiet made_number (place t) e h makes_none;
 }
 
-none_is_no_some : (x : Option ℕ) (n : ℕ) → x ≡ None → x ≡ Some n → ⊥
-none_is_no_some x n p q = let z : ◌≡◌ {A = ℕ} 0 1 = cc in omega arith
-
-pub same_some : (x : Option ℕ) (m n : ℕ) → x ≡ Some m → x ≡ Some n → m ≡ n
-same_some x m n p q = cc
-
 -- a number that is given stays, if the event's own transaction had none
 given_stays : (f : Heard → Option ℕ) (e : Event) (h : History) (t : Transaction) → current (seat_of e.call) h ≡ Some t → number_of f (place t) h ≡ None → (o n : ℕ) → number_of f o h ≡ Some n → number_of f o (e ∷ h) ≡ Some n
 given_stays f e h t is none o n some =
-    number_kept f o e h t is (λ same. none_is_no_some (number_of f (place t) h) n none (ap (λ (x : ℕ). number_of f x h) same ∙ some)) ∙ some
+    number_kept f o e h t is (λ same. none-some n (sym none ∙ ap (λ (x : ℕ). number_of f x h) same ∙ some)) ∙ some
 
 -- an answer that opens
 pub opening_event : (start : Start) (e : Event) (h : History) (t : Transaction) → current (seat_of e.call) h ≡ Some t → opened_as (place t) h ≡ None → made_number e.hears ≡ None → Extension start e h
@@ -65,7 +60,7 @@ making_event start e h t w is none on opens-none makes last since = record {
   made_next = λ o v on-v made_none.
       ⊎_elim
       (λ (same : place t ≡ o).
-      let vs : v ≡ w = same_some (opened_as o h) v w on-v (ap (λ (x : ℕ). opened_as x h) (sym same) ∙ on) in
+      let vs : v ≡ w = same_Some v w (sym on-v ∙ ap (λ (x : ℕ). opened_as x h) (sym same) ∙ on) in
       inr (ap (λ (x : ℕ). made_as x (e ∷ h)) (sym same) ∙ number_given made_number e h t (w + 1) makes is ∙ ap (λ (x : ℕ). Some (x + 1)) (sym vs)))
       (λ (apart : place t ≡ o → ⊥). inl (number_kept made_number o e h t is apart ∙ made_none))
       (cases_eq (place t) o);

@@ -1,5 +1,6 @@
 -- The law of runs, read off the relation at the end of a run.
 use Rattle.std.proofs.Common.{◌≡◌, ℕ, zero, suc, ◌+◌, ◌-◌, ◌<◌, ◌≤◌, true, false, List, [], ◌∷◌, ◌++◌, map, length, drop, is_some as option_is_some, Some, None, Option, sym, refl, ap, ◌∙◌, subst, ⊎_elim, arith, length-append}
+use Rattle.std.proofs.lemmas.Option.{same_Some}
 use Rattle.std.proofs.lemmas.List.{get_or_past, map_push}
 use Rattle.std.proofs.lemmas.Bool.{cases_lt, true≢false}
 use Rattle.book.specs.declared.answer.Answer.{Answer}
@@ -19,7 +20,7 @@ use Rattle.book.specs.Runs.{accepts, declines, Does, more, none, Run, steps}
 use Rattle.book.specs.Sizes.{seat_count}
 use Rattle.book.specs.Transactions.{current, place, Transaction}
 use Rattle.book.proofs.Acts.{open_seat}
-use Rattle.book.proofs.Extensions.{same_some, worked_stays}
+use Rattle.book.proofs.Extensions.{worked_stays}
 use Rattle.book.proofs.Tied.{MadeFact, PartTied, SeatTied, Tied}
 use Rattle.book.proofs.Told.{call_kept}
 
@@ -88,13 +89,10 @@ one_made _ e _ old _ p q (earlier _ _ _ _ happens) (newest f older) makes-p make
 one_made _ e f old older p q (earlier x h _ _ first) (earlier _ _ _ _ second) makes-p makes-q same = one_made h e f old older p q first second makes-p makes-q same
 
 module _ (bound : ℕ) (start : Start) (h : History) (m : Meaning) (tied : Tied bound start h m) where
-  same_one : (t u : Transaction) → Some t ≡ Some u → t ≡ u
-  same_one t u e = cc
-
   made_fact : (e : Event) (old : History) (t : Transaction) (p : ℕ) → AnswersTo h e old t → made_number e.hears ≡ Some p → MadeFact start h old t p
   made_fact e old t p to makes =
       let found = tied.made_facts e old p to.happens makes in
-      subst (λ (u : Transaction). MadeFact start h old u p) (same_one found.0 t (sym found.1 ∙ to.belongs)) found.2
+      subst (λ (u : Transaction). MadeFact start h old u p) (same_Some found.0 t (sym found.1 ∙ to.belongs)) found.2
 
   one_maker : (e f : Event) (old older : History) (t u : Transaction) (p q : ℕ) → AnswersTo h e old t → AnswersTo h f older u → made_number e.hears ≡ Some p → made_number f.hears ≡ Some q → (p ≡ q → place t ≡ place u) × (place t ≡ place u → p ≡ q)
   one_maker e f old older t u p q to-e to-f makes-p makes-q =
@@ -104,8 +102,8 @@ module _ (bound : ℕ) (start : Start) (h : History) (m : Meaning) (tied : Tied 
             let counts : made_count old ≡ made_count older = omega (arith, first.counted_from_start, second.counted_from_start) in
             let both = one_made h e f old older p q to-e.happens to-f.happens makes-p makes-q counts in
             let calls_same : current (seat_of e.call) old ≡ current (seat_of f.call) older = (λ i. current (seat_of (both.0 i).call) (both.1 i)) in
-            ap place (same_one t u (sym to-e.belongs ∙ calls_same ∙ to-f.belongs)),
-        λ same. same_some (made_as (place u) h) p q (ap (λ (x : ℕ). made_as x h) (sym same) ∙ first.makes_once) second.makes_once,
+            ap place (same_Some t u (sym to-e.belongs ∙ calls_same ∙ to-f.belongs)),
+        λ same. same_Some p q (sym (ap (λ (x : ℕ). made_as x h) (sym same) ∙ first.makes_once) ∙ second.makes_once),
       )
 
   pub numbers : NumbersAreRight start.number h
@@ -128,27 +126,27 @@ is_some (Some y) e = (y, refl)
 
 waited_is_no : (word : Word) (n : ℕ) → (heard_step word n ≡ waited) → word ≡ words.Wait
 waited_is_no words.Wait n e = refl
-waited_is_no words.Moved n e = let z : ◌≡◌ {A = ℕ} 0 1 = cc in absurd (omega arith)
-waited_is_no words.Opened n e = let z : ◌≡◌ {A = ℕ} 0 1 = cc in absurd (omega arith)
-waited_is_no words.Told n e = let z : ◌≡◌ {A = ℕ} 0 1 = cc in absurd (omega arith)
-waited_is_no words.Put n e = let z : ◌≡◌ {A = ℕ} 0 1 = cc in absurd (omega arith)
-waited_is_no words.Made n e = let z : ◌≡◌ {A = ℕ} 0 1 = cc in absurd (omega arith)
-waited_is_no words.Ended n e = let z : ◌≡◌ {A = ℕ} 0 1 = cc in absurd (omega arith)
+waited_is_no words.Moved n e = absurd cc
+waited_is_no words.Opened n e = absurd cc
+waited_is_no words.Told n e = absurd cc
+waited_is_no words.Put n e = absurd cc
+waited_is_no words.Made n e = absurd cc
+waited_is_no words.Ended n e = absurd cc
 
 -- only a seat that would wait answers that it does
 wait_waits : (m : Meaning) (s : ℕ) (o : Open) (word : Word) (n : ℕ) (m' : Meaning) → Steps m s o word n m' → word ≡ words.Wait → m.waits s ≡ true
 wait_waits m s o _ _ _ (effects.waits would) e = would
-wait_waits m s o _ _ _ (effects.moves _ _ _ _ _ _) e = let z : ◌≡◌ {A = ℕ} 0 1 = cc in absurd (omega arith)
-wait_waits m s o _ _ _ (effects.opens _ _ _ _ _ _ _ _) e = let z : ◌≡◌ {A = ℕ} 0 1 = cc in absurd (omega arith)
-wait_waits m s o _ _ _ (effects.tells_value _ _ _ _ _ _ _ _ _) e = let z : ◌≡◌ {A = ℕ} 0 1 = cc in absurd (omega arith)
-wait_waits m s o _ _ _ (effects.puts _ _ _ _ _ _) e = let z : ◌≡◌ {A = ℕ} 0 1 = cc in absurd (omega arith)
-wait_waits m s o _ _ _ (effects.makes _ _ _ _ _ _ _ _) e = let z : ◌≡◌ {A = ℕ} 0 1 = cc in absurd (omega arith)
-wait_waits m s o _ _ _ (effects.ends_reader _ _ _ _ _ _ _ _) e = let z : ◌≡◌ {A = ℕ} 0 1 = cc in absurd (omega arith)
-wait_waits m s o _ _ _ (effects.ends_writer _ _ _ _ _ _ _) e = let z : ◌≡◌ {A = ℕ} 0 1 = cc in absurd (omega arith)
+wait_waits m s o _ _ _ (effects.moves _ _ _ _ _ _) e = absurd cc
+wait_waits m s o _ _ _ (effects.opens _ _ _ _ _ _ _ _) e = absurd cc
+wait_waits m s o _ _ _ (effects.tells_value _ _ _ _ _ _ _ _ _) e = absurd cc
+wait_waits m s o _ _ _ (effects.puts _ _ _ _ _ _) e = absurd cc
+wait_waits m s o _ _ _ (effects.makes _ _ _ _ _ _ _ _) e = absurd cc
+wait_waits m s o _ _ _ (effects.ends_reader _ _ _ _ _ _ _ _) e = absurd cc
+wait_waits m s o _ _ _ (effects.ends_writer _ _ _ _ _ _ _) e = absurd cc
 
 step_goes_on : (bound : ℕ) (m : Meaning) (s : ℕ) → m.waits s ≡ false → (call : Call) (answer : Answer) (m' : Meaning) → call ≡ calls.Step s → Does bound m call answer m' → heard answer ≡ waited → ⊥
-step_goes_on bound m s goes _ _ _ is (declines call refusal _) e = let z : ◌≡◌ {A = ℕ} 0 1 = cc in omega arith
-step_goes_on bound m s goes _ _ _ is (accepts call m' _ _ _) e = let z : ◌≡◌ {A = ℕ} 0 1 = cc in omega arith
+step_goes_on bound m s goes _ _ _ is (declines call refusal _) e = cc
+step_goes_on bound m s goes _ _ _ is (accepts call m' _ _ _) e = cc
 step_goes_on bound m s goes _ _ _ is (steps r o word n m' _ _ step) e =
     let same : r ≡ s = cc in
     true≢false (sym (wait_waits m r o word n m' step (waited_is_no word n e)) ∙ ap m.waits same ∙ goes)
@@ -163,11 +161,8 @@ module _ (bound : ℕ) (start : Start) (h : History) (m : Meaning) (tied : Tied 
   busy_in_meaning all r q part =
       let found = open_seat bound start h r (current r h) q (subst (PartTied bound start h r (current r h)) part (tied.seats r)) in
       let busy = all r (ap option_is_some found.1) in
-      let same : busy.0 ≡ found.0 = same_one busy.0 found.0 (sym busy.1 ∙ found.1) in
+      let same : busy.0 ≡ found.0 = same_Some busy.0 found.0 (sym busy.1 ∙ found.1) in
       ap option_is_some (sym found.2.requests) ∙ ap (λ (x : Transaction). option_is_some x.asks) (sym same) ∙ busy.2
-    where
-      same_one : (t u : Transaction) → Some t ≡ Some u → t ≡ u
-      same_one t u e = cc
 
   pub moves_on : SomeBusyMoves m → SomethingMoves bound h m
   moves_on law = record {

@@ -55,9 +55,6 @@ current_placed s [] = tt
 current_placed s (e ∷ old) =
     cond_both (eqb (seat_of e.call) s) (going_on e.call e.hears old (current s old)) (current s old) (Placed (suc (length old))) (λ _. placed_on e.call e.hears old (current s old) (current_placed s old)) (λ _. placed_more (length old) (current s old) (current_placed s old))
 
-pub placed_at : (s : ℕ) (h : History) (t : Transaction) → current s h ≡ Some t → place t < length h
-placed_at s h t e = subst (Placed (length h)) e (current_placed s h)
-
 -- a seat's transaction is at the place o, if there is one
 abbrev At : ℕ → Option Transaction → Type 0
 At o None = ⊥

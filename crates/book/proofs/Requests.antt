@@ -1,5 +1,6 @@
 -- Declined calls, waits and accepted requests keep the relation between meaning and history.
 use Rattle.std.proofs.Common.{◌≡◌, ℕ, ◌+◌, ◌<◌, ◌≤◌, Bool, true, false, cond, eqb, leb, [], ◌∷◌, length, set, is_some, Some, None, Option, sym, refl, ap, ◌∙◌, subst, arith}
+use Rattle.std.proofs.lemmas.Option.{same_Some}
 use Rattle.std.proofs.lemmas.Bool.{cond-true, eq-eqb, false≢true, leb-false, true≢false}
 use Rattle.book.specs.declared.call.Call.{Call}
 use Rattle.book.specs.declared.call.Call.TheVariants as calls
@@ -19,8 +20,8 @@ use Rattle.book.proofs.Tied.{PartTied, Sees, SeatTied, Tied}
 use Rattle.book.proofs.WriteSets.{write_set}
 
 -- a table's line that meets nothing
-none_above : (b : Bool) (r : Refusal) (x : Option Refusal) → if_then b r x ≡ None → (b ≡ false) × (x ≡ None)
-none_above true r x e = let z : ◌≡◌ {A = ℕ} 0 1 = cc in absurd (omega arith)
+pub none_above : (b : Bool) (r : Refusal) (x : Option Refusal) → if_then b r x ≡ None → (b ≡ false) × (x ≡ None)
+none_above true r x e = absurd cc
 none_above false r x e = (refl, e)
 
 pub seat_within : (m : Meaning) (call : Call) → refusal_of m call ≡ None → seat_of call < seat_count
@@ -62,10 +63,10 @@ module _ (bound : ℕ) (start : Start) (h : History) (m : Meaning) (tied : Tied 
       tied.size refl (λ _ _. refl)
 
 pub tied_declined : (bound : ℕ) (start : Start) (h : History) (m : Meaning) → Tied bound start h m → (call : Call) → Tied bound start (record { call = call; hears = declined } ∷ h) m
-tied_declined bound start h m tied call = tied_still bound start h m tied (record { call = call; hears = declined }) refl refl (λ e. let z : ◌≡◌ {A = ℕ} 0 1 = cc in omega arith) (λ _. refl) (λ _. refl)
+tied_declined bound start h m tied call = tied_still bound start h m tied (record { call = call; hears = declined }) refl refl (λ e. cc) (λ _. refl) (λ _. refl)
 
 pub tied_waited : (bound : ℕ) (start : Start) (h : History) (m : Meaning) → Tied bound start h m → (s : ℕ) → Tied bound start (record { call = calls.Step s; hears = waited } ∷ h) m
-tied_waited bound start h m tied s = tied_still bound start h m tied (record { call = calls.Step s; hears = waited }) refl refl (λ e. let z : ◌≡◌ {A = ℕ} 0 1 = cc in omega arith) (λ _. refl) (λ _. refl)
+tied_waited bound start h m tied s = tied_still bound start h m tied (record { call = calls.Step s; hears = waited }) refl refl (λ e. cc) (λ _. refl) (λ _. refl)
 
 -- a free seat has no transaction, and an open one has its own
 free_seat : (bound : ℕ) (start : Start) (h : History) (s : ℕ) (u : Option Transaction) → PartTied bound start h s u None → u ≡ None
@@ -89,7 +90,7 @@ module _ (bound : ℕ) (start : Start) (h : History) (m : Meaning) (tied : Tied 
       seats within
     where
       not_told : accepted ≡ told → ⊥
-      not_told e = let z : ◌≡◌ {A = ℕ} 0 1 = cc in omega arith
+      not_told e = cc
 
   -- a new transaction
   fresh_tied : (o : Open) → (t : Transaction) → t.before ≡ h → t.asks ≡ Some opening → t.puts ≡ [] → t.kind ≡ o.kind → o.request ≡ Some opening → o.sight ≡ nothing → o.writes ≡ [] → o.owed ≤ bound → SeatTied bound start (asks_event ∷ h) (seat_of call) t o
@@ -116,14 +117,11 @@ module _ (bound : ℕ) (start : Start) (h : History) (m : Meaning) (tied : Tied 
         writes = seat.writes;
         begun = seat.begun;
         owes = omega (arith, none_taken);
-        sees = view_stays start asks_event h t (Some r) t.puts o.sight x (number_quiet opened_number (place t) asks_event h refl) (number_quiet made_number (place t) asks_event h refl) (busy_not opening) (busy_not ending) (λ e. not_opening (same_request e)) seat.sees;
+        sees = view_stays start asks_event h t (Some r) t.puts o.sight x (number_quiet opened_number (place t) asks_event h refl) (number_quiet made_number (place t) asks_event h refl) (busy_not opening) (busy_not ending) (λ e. not_opening (same_Some r opening e)) seat.sees;
       }
     where
       busy_not : (q : Request) → t.asks ≡ Some q → ⊥
       busy_not q e = true≢false (sym (ap is_some (sym seat.requests ∙ e)) ∙ idle)
-
-      same_request : Some r ≡ Some opening → r ≡ opening
-      same_request e = cc
 
   open_tied : (o : Open) (r : Request) (owed : ℕ) → seat_part m (seat_of call) ≡ Some o → is_busy o ≡ false → (r ≡ opening → ⊥) → owed ≤ bound → PartTied bound start (asks_event ∷ h) (seat_of call) (asking (Some r) (current (seat_of call) h)) (asked r owed (seat_part m (seat_of call)))
   open_tied o r owed part idle not_opening few =
@@ -135,19 +133,16 @@ module _ (bound : ℕ) (start : Start) (h : History) (m : Meaning) (tied : Tied 
 abbrev pub Idle : Option Open → Type 0
 Idle part = (o : Open) × (part ≡ Some o) × (is_busy o ≡ false)
 
-some_is_no_none : (r : Refusal) → ◌≡◌ {A = Option Refusal} (Some r) None → ⊥
-some_is_no_none r e = let z : ◌≡◌ {A = ℕ} 0 1 = cc in omega arith
-
 idle_get : (m : Meaning) (cell : ℕ) (part : Option Open) → get_refusal m cell part ≡ None → Idle part
-idle_get m cell None e = absurd (some_is_no_none _ e)
+idle_get m cell None e = absurd cc
 idle_get m cell (Some o) e = (o, refl, (none_above (is_busy o) _ _ e).0)
 
 idle_put : (m : Meaning) (cell : ℕ) (part : Option Open) → put_refusal m cell part ≡ None → Idle part
-idle_put m cell None e = absurd (some_is_no_none _ e)
+idle_put m cell None e = absurd cc
 idle_put m cell (Some o) e = (o, refl, (none_above (is_busy o) _ _ e).0)
 
 idle_end : (part : Option Open) → end_refusal part ≡ None → Idle part
-idle_end None e = absurd (some_is_no_none _ e)
+idle_end None e = absurd cc
 idle_end (Some o) e = (o, refl, (none_above (is_busy o) _ _ e).0)
 
 seat_none : (m : Meaning) (call : Call) → refusal_of m call ≡ None → seat_refusal m call ≡ None
@@ -161,15 +156,15 @@ tied_accepted bound start h m tied (calls.Get seat cell) m' asks none a =
     let call = calls.Get seat cell in
     let idle = idle_get m cell (seat_part m seat) (seat_none m call none) in
     accepted_tied bound start h m tied call (seat_within m call none) m' _ (ap (λ (x : Meaning). x.number) a.effect) (ap (λ (x : Meaning). x.cells) a.effect) (ap (λ (x : Meaning). x.seats) a.effect)
-    (open_tied bound start h m tied call (seat_within m call none) idle.0 (getting cell) a.owed idle.1 idle.2 (λ e. let z : ◌≡◌ {A = ℕ} 0 1 = cc in omega arith) a.within)
+    (open_tied bound start h m tied call (seat_within m call none) idle.0 (getting cell) a.owed idle.1 idle.2 (λ e. cc) a.within)
 tied_accepted bound start h m tied (calls.Put seat cell value) m' asks none a =
     let call = calls.Put seat cell value in
     let idle = idle_put m cell (seat_part m seat) (seat_none m call none) in
     accepted_tied bound start h m tied call (seat_within m call none) m' _ (ap (λ (x : Meaning). x.number) a.effect) (ap (λ (x : Meaning). x.cells) a.effect) (ap (λ (x : Meaning). x.seats) a.effect)
-    (open_tied bound start h m tied call (seat_within m call none) idle.0 (putting (record { cell = cell; value = value })) a.owed idle.1 idle.2 (λ e. let z : ◌≡◌ {A = ℕ} 0 1 = cc in omega arith) a.within)
+    (open_tied bound start h m tied call (seat_within m call none) idle.0 (putting (record { cell = cell; value = value })) a.owed idle.1 idle.2 (λ e. cc) a.within)
 tied_accepted bound start h m tied (calls.End seat) m' asks none a =
     let call = calls.End seat in
     let idle = idle_end (seat_part m seat) (seat_none m call none) in
     accepted_tied bound start h m tied call (seat_within m call none) m' _ (ap (λ (x : Meaning). x.number) a.effect) (ap (λ (x : Meaning). x.cells) a.effect) (ap (λ (x : Meaning). x.seats) a.effect)
-    (open_tied bound start h m tied call (seat_within m call none) idle.0 ending a.owed idle.1 idle.2 (λ e. let z : ◌≡◌ {A = ℕ} 0 1 = cc in omega arith) a.within)
+    (open_tied bound start h m tied call (seat_within m call none) idle.0 ending a.owed idle.1 idle.2 (λ e. cc) a.within)
 tied_accepted bound start h m tied (calls.Step seat) m' asks none a = absurd (false≢true asks)

@@ -21,7 +21,7 @@ test c w = eqb w.cell c
 step : (c : ℕ) (w : Write) (ws : List Write) → distinct (w ∷ ws) ≡ true → (r : Option ℕ) → Position c ws r → Position c (w ∷ ws) (tail_first (test c w) r)
 step c w ws apart (Some j) (within, found, replaced) =
     let alone : written w.cell ws ≡ None = is_none _ (not-true _ (and_parts (not (is_some (written w.cell ws))) (distinct ws) apart).0) in
-    let other : eqb w.cell c ≡ false = ne_eqb w.cell c (λ is. let f = found w in let p = ap (λ (x : ℕ). written x ws) is in let z : ◌≡◌ {A = ℕ} 0 1 = cc in omega arith) in (
+    let other : eqb w.cell c ≡ false = ne_eqb w.cell c (λ is. let f = found w in let p = ap (λ (x : ℕ). written x ws) is in cc) in (
       omega arith,
       λ d. cond-false (eqb w.cell c) _ _ other ∙ found d,
       λ p is. ap (λ (l : List Write). w ∷ l) (replaced p is) ∙ sym (cond-false (eqb w.cell p.cell) (p ∷ ws) (w ∷ with_put p ws) (ap (eqb w.cell) is ∙ other)),
@@ -67,7 +67,7 @@ pub new_put : (p : Write) (ws : List Write) → written p.cell ws ≡ None → w
 new_put p [] none = refl
 new_put p (w ∷ ws) none =
     elim (cases_Bool (eqb w.cell p.cell)) [
-      | inl same ↦ let e = sym (cond-true (eqb w.cell p.cell) (Some w.value) (written p.cell ws) same) ∙ none in let z : ◌≡◌ {A = ℕ} 0 1 = cc in absurd (omega arith)
+      | inl same ↦ let e = sym (cond-true (eqb w.cell p.cell) (Some w.value) (written p.cell ws) same) ∙ none in absurd cc
       | inr other ↦ cond-false (eqb w.cell p.cell) (p ∷ ws) (w ∷ with_put p ws) other ∙ ap (λ (l : List Write). w ∷ l) (new_put p ws (sym (cond-false (eqb w.cell p.cell) (Some w.value) (written p.cell ws) other) ∙ none))
     ]
 
