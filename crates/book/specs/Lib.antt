@@ -10,6 +10,7 @@ pub mod Ran
 pub mod Refusals
 pub mod Replays
 pub mod Runs
+pub mod Seats
 pub mod Sizes
 pub mod Transactions
 pub mod WriteSets

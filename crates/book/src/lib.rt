@@ -6,6 +6,7 @@ mod call;
 mod engine;
 mod refusal;
 mod runner;
+mod seat;
 mod write;
 mod write_set;
 
@@ -14,5 +15,6 @@ pub use call::{Call, Kind, Value};
 pub use engine::{Engine, MAX_CELLS, MAX_NUMBER, SEATS};
 pub use refusal::Refusal;
 pub use runner::{call_on, run};
+pub use seat::Seat;
 pub use write::Write;
 pub use write_set::{MAX_WRITES, WriteSet};
