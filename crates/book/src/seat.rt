@@ -37,6 +37,17 @@ impl TryFrom<u32> for Seat {
 }
 
 impl Seat {
+    pub const ALL: [Seat; SEATS as usize] = [
+        Seat { number: 0 },
+        Seat { number: 1 },
+        Seat { number: 2 },
+        Seat { number: 3 },
+        Seat { number: 4 },
+        Seat { number: 5 },
+        Seat { number: 6 },
+        Seat { number: 7 },
+    ];
+
     // Where the seat stands in a list of all seats.
     pub fn index(self) -> usize
         ensures number { result ≡ self }

@@ -16,13 +16,15 @@ use Rattle.serial.specs.Seats.{part_at, part_with_turn, turn_of}
 use Rattle.serial.specs.States.{has_turn, latest, meaning_of, turn_part, turn_seat, waiting_part, with_turn}
 
 -- what the engine's type says of its state
-pub record Sound (st : State) : Type 0 where
-  pub cells : length st.cells ≡ 64
-  pub count : st.count ≤ 64
-  pub seats : length st.waiting ≡ 8
-  pub within : turn_seat st.turn < 8
-  pub fits : turn_room st.turn ≡ true
-  pub room : numbers_taken (meaning_of st) ≤ 2147483647
+abbrev pub Sound : State → Type 0
+Sound st = record {
+  cells : length st.cells ≡ 64;
+  count : st.count ≤ 64;
+  seats : length st.waiting ≡ 8;
+  within : turn_seat st.turn < 8;
+  fits : turn_room st.turn ≡ true;
+  room : numbers_taken (meaning_of st) ≤ 2147483647;
+}
 
 pub sound_of : (e : Serial) → Sound e.state
 sound_of e = record { cells = e.cells; count = e.count; seats = e.seats; within = e.within; fits = e.fits; room = e.room }

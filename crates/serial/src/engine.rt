@@ -3,7 +3,7 @@ ghost use Rattle.serial.specs.Laws.{seats_sized, someone_moves, sound_of};
 
 use crate::serial::Serial;
 use crate::state::Stage;
-use book::{Call, Engine, Kind, MAX_CELLS, Refusal, SEATS, Standing, Value, Word, Write};
+use book::{Call, Engine, Kind, MAX_CELLS, Refusal, Seat, Standing, Value, Word, Write};
 
 impl Engine for Serial {
     const BOUND: u32 = 2;
@@ -31,53 +31,38 @@ impl Engine for Serial {
     }
 
     fn open(&mut self, kind: Kind, seat: u32) -> Result<(), Refusal> {
-        if let Some(refusal) = self.refusal(Call::Open { kind, seat }) {
-            return Err(refusal);
-        }
+        let seat = self.allow(Call::Open { kind, seat })?;
         self.wait_for_turn(kind, seat);
         Ok(())
     }
 
     fn get(&mut self, seat: u32, cell: u32) -> Result<(), Refusal> {
-        if let Some(refusal) = self.refusal(Call::Get { seat, cell }) {
-            return Err(refusal);
-        }
+        let seat = self.allow(Call::Get { seat, cell })?;
         self.ask(seat, Stage::Getting { cell });
         Ok(())
     }
 
     fn put(&mut self, seat: u32, cell: u32, value: Value) -> Result<(), Refusal> {
-        if let Some(refusal) = self.refusal(Call::Put { seat, cell, value }) {
-            return Err(refusal);
-        }
-        self.ask(
-            seat,
-            Stage::Putting {
-                write: Write { cell, value },
-            },
-        );
+        let seat = self.allow(Call::Put { seat, cell, value })?;
+        let write = Write { cell, value };
+        self.ask(seat, Stage::Putting { write });
         Ok(())
     }
 
     fn end(&mut self, seat: u32) -> Result<(), Refusal> {
-        if let Some(refusal) = self.refusal(Call::End { seat }) {
-            return Err(refusal);
-        }
+        let seat = self.allow(Call::End { seat })?;
         self.ask(seat, Stage::Ending);
         Ok(())
     }
 
     fn step(&mut self, seat: u32) -> Result<(Word, u32), Refusal> {
-        if let Some(refusal) = self.refusal(Call::Step { seat }) {
-            return Err(refusal);
+        let seat = self.allow(Call::Step { seat })?;
+        let turn = self.state.turn;
+        match turn {
+            None => Ok(self.first_step(seat)),
+            Some(turn) if turn.seat == seat => Ok(self.step_of_turn(turn)),
+            Some(_) => Ok((Word::Wait, 0)),
         }
-        let Some(turn) = self.state.turn else {
-            return Ok(self.take_turn(seat));
-        };
-        if turn.seat != seat {
-            return Ok((Word::Wait, 0));
-        }
-        Ok(self.step_of_turn(turn))
     }
 
     fn number(&self) -> u32 {
@@ -92,20 +77,16 @@ impl Engine for Serial {
         if cell as usize >= self.state.count {
             return Err(Refusal::NoSuchCell);
         }
-        Ok(self.state.value_at(cell))
+        Ok(self.value_at(cell))
     }
 
     fn kind(&self, seat: u32) -> Result<Option<Kind>, Refusal> {
-        if seat >= SEATS {
-            return Err(Refusal::NoSuchSeat);
-        }
+        let seat = Seat::try_from(seat)?;
         Ok(self.state.kind_in(seat))
     }
 
     fn standing(&self, seat: u32) -> Result<Standing, Refusal> {
-        if seat >= SEATS {
-            return Err(Refusal::NoSuchSeat);
-        }
+        let seat = Seat::try_from(seat)?;
         Ok(self.state.standing_in(seat))
     }
 }

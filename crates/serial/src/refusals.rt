@@ -1,118 +1,103 @@
 // Which refusal a call meets, line by line of the table in docs/BOOK.md.
-ghost use Rattle.std.specs.Prelude.{◌≡◌, ◌+◌, ◌<◌, ◌≤◌, length, count_by};
-ghost use Rattle.book.specs.Calls.{end_refusal, get_refusal, numbers_taken, open_refusal, put_refusal, refusal_of, step_refusal, will_make};
-ghost use Rattle.serial.specs.Seats.{part_at};
-ghost use Rattle.serial.specs.States.{latest, meaning_of, turn_seat};
+ghost use Rattle.std.specs.Prelude.{◌≡◌, IfOk, count_by};
+ghost use Rattle.std.specs.Result.{result_err};
+ghost use Rattle.book.specs.Calls.{end_refusal, get_refusal, open_refusal, put_refusal, refusal_of, seat_of, step_refusal, will_make};
+ghost use Rattle.serial.specs.Seats.{part_at, refusal_at};
+ghost use Rattle.serial.specs.States.{meaning_of};
 
 use crate::serial::Serial;
-use crate::state::State;
-use book::{Call, Kind, MAX_NUMBER, Refusal, SEATS, Standing};
+use book::{Call, Kind, MAX_NUMBER, Refusal, SEATS, Seat, Standing};
 
-impl State {
-    pub(crate) fn get_refusal(&self, seat: u32, cell: u32) -> Option<Refusal>
-        requires seat_in_bounds { seat < length self.now.waiting }
-        requires self_len { length (latest self.now) ≡ self.now.count }
-        ensures { result ≡ get_refusal (meaning_of self.now) cell (part_at self.now seat) }
+impl Serial {
+    // The seat that the call is on, or the refusal that the call meets.
+    pub(crate) fn allow(&self, call: Call) -> Result<Seat, Refusal>
+        ensures refusal { result_err result ≡ refusal_of (meaning_of self.now.state) call }
+        ensures seat { IfOk result (λ seat. seat ≡ seat_of call) }
     {
-        match self.standing_in(seat) {
-            Standing::Free => Some(Refusal::SeatFree),
-            Standing::Busy => Some(Refusal::SeatBusy),
-            Standing::Ready => {
-                if cell as usize >= self.count {
-                    Some(Refusal::NoSuchCell)
-                } else {
-                    None
-                }
-            }
+        let seat = Seat::try_from(call.seat())?;
+        self.check(call, seat)?;
+        Ok(seat)
+    }
+
+    // Whether this seat may do what the call asks for.
+    fn check(&self, call: Call, seat: Seat) -> Result<(), Refusal>
+        ensures { result_err result ≡ refusal_at self.now.state call seat }
+    {
+        match call {
+            Call::Open { kind, .. } => self.may_open(kind, seat),
+            Call::Get { cell, .. } => self.may_get(seat, cell),
+            Call::Put { cell, .. } => self.may_put(seat, cell),
+            Call::End { .. } => self.may_end(seat),
+            Call::Step { .. } => self.may_step(seat),
         }
     }
 
-    pub(crate) fn end_refusal(&self, seat: u32) -> Option<Refusal>
-        requires { seat < length self.now.waiting }
-        ensures { result ≡ end_refusal (part_at self.now seat) }
+    fn may_open(&self, kind: Kind, seat: Seat) -> Result<(), Refusal>
+        ensures { result_err result ≡ open_refusal (meaning_of self.now.state) kind (part_at self.now.state seat) }
     {
-        match self.standing_in(seat) {
-            Standing::Free => Some(Refusal::SeatFree),
-            Standing::Busy => Some(Refusal::SeatBusy),
-            Standing::Ready => None,
+        if self.state.standing_in(seat) != Standing::Free {
+            return Err(Refusal::SeatNotFree);
         }
+        if kind == Kind::Writer && self.state.number + self.writers() >= MAX_NUMBER {
+            return Err(Refusal::NumbersUsedUp);
+        }
+        Ok(())
     }
 
-    pub(crate) fn step_refusal(&self, seat: u32) -> Option<Refusal>
-        requires { seat < length self.now.waiting }
-        ensures { result ≡ step_refusal (part_at self.now seat) }
+    fn may_get(&self, seat: Seat, cell: u32) -> Result<(), Refusal>
+        ensures { result_err result ≡ get_refusal (meaning_of self.now.state) cell (part_at self.now.state seat) }
     {
-        match self.standing_in(seat) {
-            Standing::Free => Some(Refusal::SeatFree),
-            Standing::Busy => None,
-            Standing::Ready => Some(Refusal::SeatReady),
+        self.may_end(seat)?;
+        if cell as usize >= self.state.count {
+            return Err(Refusal::NoSuchCell);
         }
+        Ok(())
     }
 
-    pub(crate) fn put_refusal(&self, seat: u32, cell: u32) -> Option<Refusal>
-        requires seat_in_bounds { seat < length self.now.waiting }
-        requires self_len { length (latest self.now) ≡ self.now.count }
-        ensures { result ≡ put_refusal (meaning_of self.now) cell (part_at self.now seat) }
+    fn may_put(&self, seat: Seat, cell: u32) -> Result<(), Refusal>
+        ensures { result_err result ≡ put_refusal (meaning_of self.now.state) cell (part_at self.now.state seat) }
     {
-        if let Some(refusal) = self.get_refusal(seat, cell) {
-            return Some(refusal);
-        }
-        let turn = self.turn_of(seat)?;
+        self.may_get(seat, cell)?;
+        let Some(turn) = self.state.turn_of(seat) else {
+            return unreachable();
+        };
         if turn.kind == Kind::Reader {
-            return Some(Refusal::PutByReader);
+            return Err(Refusal::PutByReader);
         }
         if turn.writes.is_full_for(cell) {
-            return Some(Refusal::WriteSetFull);
+            return Err(Refusal::WriteSetFull);
         }
-        None
+        Ok(())
+    }
+
+    // Like all further requests, an end is for a seat that is ready.
+    fn may_end(&self, seat: Seat) -> Result<(), Refusal>
+        ensures { result_err result ≡ end_refusal (part_at self.now.state seat) }
+    {
+        match self.state.standing_in(seat) {
+            Standing::Free => Err(Refusal::SeatFree),
+            Standing::Busy => Err(Refusal::SeatBusy),
+            Standing::Ready => Ok(()),
+        }
+    }
+
+    fn may_step(&self, seat: Seat) -> Result<(), Refusal>
+        ensures { result_err result ≡ step_refusal (part_at self.now.state seat) }
+    {
+        match self.state.standing_in(seat) {
+            Standing::Free => Err(Refusal::SeatFree),
+            Standing::Busy => Ok(()),
+            Standing::Ready => Err(Refusal::SeatReady),
+        }
     }
 
     // How many open writers have not made yet.
     fn writers(&self) -> u32
-        requires sized { length self.now.waiting ≡ 8 }
-        requires within { turn_seat self.now.turn < 8 }
-        ensures { result ≡ count_by will_make (meaning_of self.now).seats }
+        ensures { result ≡ count_by will_make (meaning_of self.now.state).seats }
     {
-        let mut n = 0;
-        for seat in 0..SEATS {
-            if self.will_make(seat) {
-                n += 1;
-            }
-        }
-        n
-    }
-
-    pub(crate) fn open_refusal(&self, kind: Kind, seat: u32) -> Option<Refusal>
-        requires place { seat < 8 }
-        requires sized { length self.now.waiting ≡ 8 }
-        requires within { turn_seat self.now.turn < 8 }
-        requires room { numbers_taken (meaning_of self.now) ≤ 2147483647 }
-        ensures { result ≡ open_refusal (meaning_of self.now) kind (part_at self.now seat) }
-    {
-        if self.standing_in(seat) != Standing::Free {
-            return Some(Refusal::SeatNotFree);
-        }
-        if kind == Kind::Writer && self.number + self.writers() >= MAX_NUMBER {
-            return Some(Refusal::NumbersUsedUp);
-        }
-        None
-    }
-}
-
-impl Serial {
-    // The refusal that a call meets, or none where it succeeds.
-    pub(crate) fn refusal(&self, call: Call) -> Option<Refusal>
-        ensures { result ≡ refusal_of (meaning_of self.now.state) call }
-    {
-        if call.seat() >= SEATS {
-            return Some(Refusal::NoSuchSeat);
-        }
-        match call {
-            Call::Open { kind, seat } => self.state.open_refusal(kind, seat),
-            Call::Get { seat, cell } => self.state.get_refusal(seat, cell),
-            Call::Put { seat, cell, .. } => self.state.put_refusal(seat, cell),
-            Call::End { seat } => self.state.end_refusal(seat),
-            Call::Step { seat } => self.state.step_refusal(seat),
-        }
+        Seat::ALL
+            .iter()
+            .filter(|seat| self.state.will_make(**seat))
+            .count() as u32
     }
 }

@@ -1,36 +1,31 @@
 // What single seats are doing.
-ghost use Rattle.std.specs.Prelude.{◌≡◌, ◌<◌, [], length};
+ghost use Rattle.std.specs.Prelude.{◌≡◌, []};
 ghost use Rattle.book.specs.Calls.{has_made, will_make};
 ghost use Rattle.book.specs.Engines.{kind_in, standing_in};
 ghost use Rattle.serial.specs.Seats.{part_at, turn_of};
 ghost use Rattle.serial.specs.States.{stage_sight};
 
 use crate::state::{Stage, State, Turn};
-use book::{Kind, Standing};
+use book::{Kind, Seat, Standing};
 
 impl State {
     // The turn, where this seat has it.
-    pub(crate) fn turn_of(&self, seat: u32) -> Option<Turn>
+    pub(crate) fn turn_of(&self, seat: Seat) -> Option<Turn>
         ensures { result ≡ turn_of self.now.turn seat }
     {
-        match self.turn {
-            Some(turn) if turn.seat == seat => Some(turn),
-            _ => None,
-        }
+        self.turn.filter(|turn| turn.seat == seat)
     }
 
-    pub(crate) fn kind_in(&self, seat: u32) -> Option<Kind>
-        requires { seat < length self.now.waiting }
+    pub(crate) fn kind_in(&self, seat: Seat) -> Option<Kind>
         ensures { result ≡ kind_in (part_at self.now seat) }
     {
         match self.turn_of(seat) {
             Some(turn) => Some(turn.kind),
-            None => self.waiting[seat as usize],
+            None => self.waiting[seat.index()],
         }
     }
 
-    pub(crate) fn standing_in(&self, seat: u32) -> Standing
-        requires { seat < length self.now.waiting }
+    pub(crate) fn standing_in(&self, seat: Seat) -> Standing
         ensures { result ≡ standing_in (part_at self.now seat) }
     {
         match self.turn_of(seat) {
@@ -38,7 +33,7 @@ impl State {
                 Stage::Ready => Standing::Ready,
                 _ => Standing::Busy,
             },
-            None => match self.waiting[seat as usize] {
+            None => match self.waiting[seat.index()] {
                 Some(_) => Standing::Busy,
                 None => Standing::Free,
             },
@@ -46,11 +41,10 @@ impl State {
     }
 
     // Whether the seat carries a writer that has not made yet.
-    pub(crate) fn will_make(&self, seat: u32) -> bool
-        requires { seat < length self.now.waiting }
+    pub(crate) fn will_make(&self, seat: Seat) -> bool
         ensures { result ≡ will_make (part_at self.now seat) }
     {
-        let waiting = self.waiting[seat as usize];
+        let waiting = self.waiting[seat.index()];
         match self.turn_of(seat) {
             Some(turn) => turn.kind == Kind::Writer && !turn.has_made(),
             None => waiting == Some(Kind::Writer),
@@ -62,9 +56,6 @@ impl Turn {
     fn has_made(&self) -> bool
         ensures { result ≡ has_made (stage_sight self.now.stage 0 []) }
     {
-        match self.stage {
-            Stage::Made => true,
-            _ => false,
-        }
+        matches!(self.stage, Stage::Made)
     }
 }

@@ -1,5 +1,5 @@
 // What the serial engine keeps, as plain data.
-use book::{Kind, MAX_CELLS, Value, Write, WriteSet};
+use book::{Kind, MAX_CELLS, Seat, Value, Write, WriteSet};
 
 // What the transaction that has the turn is doing.
 #[derive(Clone, Copy)]
@@ -15,7 +15,7 @@ pub enum Stage {
 // The transaction that has the turn.
 #[derive(Clone, Copy)]
 pub struct Turn {
-    pub seat: u32,
+    pub seat: Seat,
     pub kind: Kind,
     pub stage: Stage,
     pub writes: WriteSet,

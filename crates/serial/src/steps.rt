@@ -1,33 +1,22 @@
 // What the engine's state becomes and what is answered, move by move.
-ghost use Rattle.std.specs.Prelude.{◌≡◌, ◌+◌, ◌<◌, ◌≤◌, length, take, Some, None, slice_index};
+ghost use Rattle.std.specs.Prelude.{◌≡◌, ◌+◌, ◌<◌, ◌≤◌, length, take};
 ghost use Rattle.std.specs.Option.{unwrap_or};
-ghost use Rattle.book.specs.declared.answer.Word.TheVariants.{Ended, Made, Opened, Told};
+ghost use Rattle.book.specs.declared.answer.Word.TheVariants.{Ended, Made, Opened, Put, Told};
 ghost use Rattle.book.specs.Writes.{applied, written};
 ghost use Rattle.book.specs.WriteSets.{entries};
 ghost use Rattle.serial.specs.declared.state.Stage.TheVariants.{Ready};
 ghost use Rattle.serial.specs.Moves.{committed_at, ended_at, ready_turn, taken_at, turn_at};
-ghost use Rattle.serial.specs.States.{latest};
 
 use crate::state::{Stage, State, Turn};
-use book::{Kind, MAX_CELLS, Value, Word, Write, WriteSet};
+use book::{Kind, MAX_CELLS, Seat, Value, Word, Write, WriteSet};
 
 impl State {
-    // The latest value of a cell, and 0 where there is no such cell.
-    pub(crate) fn value_at(&self, cell: u32) -> Value
-        requires { self.now.count ≤ length self.now.cells }
-        ensures { result ≡ slice_index (latest self.now) cell }
-    {
-        let at = cell as usize;
-        if at < self.count { self.cells[at] } else { 0 }
-    }
-
     // The seat, which waited, takes the turn, and its opening is answered.
-    pub(crate) fn take_turn(&mut self, seat: u32, kind: Kind, writes: WriteSet) -> (Word, u32)
-        requires { seat < length self.old.waiting }
+    pub(crate) fn take_turn(&mut self, seat: Seat, kind: Kind, writes: WriteSet) -> (Word, u32)
         ensures after { self.new ≡ taken_at self.old (record { seat = seat; kind = kind; stage = Ready; writes = writes }) }
         ensures answer { result ≡ (Opened, self.old.number) }
     {
-        self.waiting[seat as usize] = None;
+        self.waiting[seat.index()] = None;
         self.turn = Some(Turn {
             seat,
             kind,
@@ -37,30 +26,30 @@ impl State {
         (Word::Opened, self.number)
     }
 
-    // The transaction gives up the turn, and its seat is free.
-    pub(crate) fn give_up_turn(&mut self, seat: u32) -> (Word, u32)
-        requires { seat < length self.old.waiting }
-        ensures after { self.new ≡ ended_at self.old seat }
-        ensures answer { result ≡ (Ended, self.old.number) }
-    {
-        self.waiting[seat as usize] = None;
-        self.turn = None;
-        (Word::Ended, self.number)
-    }
-
     // The transaction is told a value: its own put of the cell, else the latest.
-    pub(crate) fn tell(&mut self, turn: Turn, cell: u32) -> (Word, u32)
-        requires { self.old.count ≤ length self.old.cells }
+    pub(crate) fn tell(&mut self, turn: Turn, cell: u32, latest: Value) -> (Word, u32)
         ensures after { self.new ≡ turn_at self.old (ready_turn turn turn.writes) }
-        ensures answer { result ≡ (Told, unwrap_or (written cell (entries turn.writes)) (slice_index (latest self.old) cell)) }
+        ensures answer { result ≡ (Told, unwrap_or (written cell (entries turn.writes)) latest) }
     {
-        let latest = self.value_at(cell);
         let value = turn.writes.get(cell).unwrap_or(latest);
         self.turn = Some(Turn {
             stage: Stage::Ready,
             ..turn
         });
         (Word::Told, value)
+    }
+
+    // The put has joined the transaction's writes.
+    pub(crate) fn put(&mut self, turn: Turn, writes: WriteSet) -> (Word, u32)
+        ensures after { self.new ≡ turn_at self.old (ready_turn turn writes) }
+        ensures answer { result ≡ (Put, 0) }
+    {
+        self.turn = Some(Turn {
+            stage: Stage::Ready,
+            writes,
+            ..turn
+        });
+        (Word::Put, 0)
     }
 
     // The transaction's writes, which stand in `cells`, become the latest cells.
@@ -76,6 +65,16 @@ impl State {
             ..turn
         });
         (Word::Made, self.number)
+    }
+
+    // The transaction gives up the turn, and its seat is free.
+    pub(crate) fn give_up_turn(&mut self, seat: Seat) -> (Word, u32)
+        ensures after { self.new ≡ ended_at self.old seat }
+        ensures answer { result ≡ (Ended, self.old.number) }
+    {
+        self.waiting[seat.index()] = None;
+        self.turn = None;
+        (Word::Ended, self.number)
     }
 }
 
