@@ -1,7 +1,8 @@
 -- Steps of the serial engine.
 use Rattle.std.specs.Prelude.{◌≡◌, ℕ, ◌+◌, ◌-◌, ◌<◌, ◌≤◌, Bool, true, false, not, ◌&&◌, ◌⊎◌, List, [], ◌∷◌, ◌++◌, map, length, get_or, take, drop, set, is_some, Some, None, Option, slice_index_or, slice_set, refl}
 use Rattle.std.proofs.Common.{inl, inr, sym, ap, subst, ◌∙◌, arith, length-append, length-drop, length-set}
-use Rattle.std.proofs.lemmas.List.{drop_more, length-take-le, take_at}
+use Rattle.std.specs.List.{push}
+use Rattle.std.proofs.lemmas.List.{length-take-le, take_at}
 use Rattle.std.proofs.lemmas.Bool.{true≢false}
 use Rattle.book.specs.declared.answer.Word.{Word}
 use Rattle.book.specs.declared.answer.Word.TheVariants as words
@@ -27,12 +28,10 @@ use Rattle.serial.proofs.Accepting.{seat_place, taken_after}
 use Rattle.serial.proofs.SeatLists.{count_one, gives_up, goes_on, one, takes_turn}
 use Rattle.serial.specs.Laws.{Sound, part_is, seats_sized, turn_goes_on, turn_has_part}
 
--- one more value is written
-pub write_more : (ws : List Write) (cells now : List CellValue) (i : ℕ) (d : Write) → 0 < i → i ≤ length ws → now ≡ applied (drop i ws) cells → slice_set now (get_or ws (i - 1) d).cell (get_or ws (i - 1) d).value ≡ applied (drop (i - 1) ws) cells
-write_more ws cells now i d some within is =
-    let back : i - 1 + 1 ≡ i = omega arith in
-    let front : drop (i - 1) ws ≡ slice_index_or ws (i - 1) d ∷ drop i ws = drop_more ws (i - 1) d (omega arith) ∙ ap (λ (k : ℕ). slice_index_or ws (i - 1) d ∷ drop k ws) back in
-    ap (λ (l : List CellValue). set l (get_or ws (i - 1) d).cell (get_or ws (i - 1) d).value) is ∙ ap (λ (l : List Write). applied l cells) (sym front)
+-- the last of the list is written first
+pub applied_last : (ws : List Write) (w : Write) (cells : List CellValue) → applied (push ws w) cells ≡ applied ws (slice_set cells w.cell w.value)
+applied_last [] w cells = refl
+applied_last (v ∷ ws) w cells = ap (λ (l : List CellValue). slice_set l v.cell v.value) (applied_last ws w cells)
 
 -- a step, told by what was answered and by the state that it led to
 pub steps_to : (m : Meaning) (seat : ℕ) (o : Open) (r answer : Word × ℕ) (st after : State) → r ≡ answer → st ≡ after → Steps m seat o answer.0 answer.1 (meaning_of after) → Steps m seat o r.0 r.1 (meaning_of st)

@@ -19,24 +19,18 @@ impl State {
     pub(crate) fn kind_in(&self, seat: Seat) -> Option<Kind>
         ensures { result ≡ kind_in (part_at self.now seat) }
     {
-        match self.turn_of(seat) {
-            Some(turn) => Some(turn.kind),
-            None => self.waiting[seat.index()],
-        }
+        self.turn_of(seat)
+            .map(|turn| turn.kind)
+            .or(self.waiting[seat.index()])
     }
 
     pub(crate) fn standing_in(&self, seat: Seat) -> Standing
         ensures { result ≡ standing_in (part_at self.now seat) }
     {
-        match self.turn_of(seat) {
-            Some(turn) => match turn.stage {
-                Stage::Ready => Standing::Ready,
-                _ => Standing::Busy,
-            },
-            None => match self.waiting[seat.index()] {
-                Some(_) => Standing::Busy,
-                None => Standing::Free,
-            },
+        match self.turn_of(seat).map(|turn| turn.stage) {
+            Some(Stage::Ready) => Standing::Ready,
+            None if self.waiting[seat.index()].is_none() => Standing::Free,
+            _ => Standing::Busy,
         }
     }
 
@@ -44,11 +38,10 @@ impl State {
     pub(crate) fn will_make(&self, seat: Seat) -> bool
         ensures { result ≡ will_make (part_at self.now seat) }
     {
-        let waiting = self.waiting[seat.index()];
-        match self.turn_of(seat) {
-            Some(turn) => turn.kind == Kind::Writer && !turn.has_made(),
-            None => waiting == Some(Kind::Writer),
-        }
+        let waits_to_write = self.waiting[seat.index()] == Some(Kind::Writer);
+        self.turn_of(seat).map_or(waits_to_write, |turn| {
+            turn.kind == Kind::Writer && !turn.has_made()
+        })
     }
 }
 

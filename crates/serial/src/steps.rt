@@ -111,10 +111,7 @@ pub(crate) fn filled(cells: &[Value]) -> [Value; MAX_CELLS]
 fn write_all(cells: &mut [Value], writes: &[Write])
     ensures { cells.new ≡ applied writes.now cells.old }
 {
-    let mut i = writes.len();
-    while i > 0 {
-        i -= 1;
-        let write = writes[i];
+    for write in writes.iter().rev() {
         let at = write.cell as usize;
         if at < cells.len() {
             cells[at] = write.value;

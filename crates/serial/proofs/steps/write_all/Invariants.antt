@@ -1,9 +1,7 @@
-use Rattle.std.proofs.Common.{◌≡◌, ◌≤◌, length, drop}
+use Rattle.std.proofs.Common.{◌≡◌}
 use Rattle.book.specs.Writes.{applied}
 use Rattle.serial.proofs.steps.write_all.Given as goal
 
-abbrev pub invariant-loop-i : goal.invariant-loop-i
-invariant-loop-i l = (l.i ≤ length l.writes) × (l.cells ≡ applied (drop l.i l.writes) l.initial.cells)
-
-abbrev pub decreases-loop-i : goal.decreases-loop-i
-decreases-loop-i l = l.i
+-- what is left to write, over the cells so far
+abbrev pub invariant-loop-write : goal.invariant-loop-write
+invariant-loop-write l = applied l.write-iterator.iter.rest.now l.cells ≡ applied l.writes l.initial.cells
