@@ -1,5 +1,5 @@
 -- Accepted requests on the serial engine.
-use Rattle.std.specs.Prelude.{◌≡◌, ℕ, ◌+◌, ◌<◌, ◌≤◌, Bool, true, false, not, ◌&&◌, ◌||◌, List, [], map, length, set, is_some, Some, None, count_by, Option, ◌==◌, ◌≢◌, nat_le, nat_lt, slice_index_or, slice_set, refl}
+use Rattle.std.specs.Prelude.{◌≡◌, ℕ, ◌+◌, ◌<◌, ◌≤◌, Bool, true, false, not, ◌&&◌, List, [], map, length, set, is_some, Some, None, count_by, Option, ◌==◌, ◌≢◌, nat_le, slice_index_or, slice_set, refl}
 use Rattle.std.proofs.Common.{inl, inr, sym, ap, ◌∙◌, arith, length-set}
 use Rattle.std.proofs.lemmas.Bool.{cases_Bool, cond-false, cond-true, eqb-true, leb-false, true≢false}
 use Rattle.std.proofs.lemmas.Bool.Decides.{nat_tests}
@@ -8,12 +8,12 @@ use Rattle.book.specs.declared.call.Call.TheVariants as calls
 use Rattle.book.specs.declared.call.Kind.{Kind}
 use Rattle.book.specs.declared.call.Kind.TheVariants.{Reader, Writer}
 use Rattle.book.specs.declared.refusal.Refusal.{Refusal}
-use Rattle.book.specs.Calls.{end_refusal, get_refusal, has_made, if_then, is_busy, is_writer, numbers_taken, open_refusal, put_refusal, refusal_of, seat_of, seat_refusal, will_make}
+use Rattle.book.specs.Calls.{end_refusal, has_made, if_then, is_busy, is_writer, numbers_taken, open_refusal, put_refusal, refusal_of, seat_of, seat_refusal, will_make}
 use Rattle.book.specs.Effects.{Accepts}
 use Rattle.book.specs.Meaning.{Meaning, Open, seat_part}
-use Rattle.book.specs.Sizes.{max_number, max_writes, seat_count}
-use Rattle.book.specs.Writes.{CellValue, written}
-use Rattle.book.specs.WriteSets.{entries, has_room, lacks_room}
+use Rattle.book.specs.Sizes.{max_number, seat_count}
+use Rattle.book.specs.Writes.{CellValue}
+use Rattle.book.specs.WriteSets.{entries, has_room}
 use Rattle.serial.specs.declared.state.Stage.{Stage}
 use Rattle.serial.specs.declared.state.Stage.TheVariants.{Ending, Getting, Made, Putting, Ready}
 use Rattle.serial.specs.declared.state.State.{State}
@@ -204,42 +204,12 @@ module _ (st : State) (sound : Sound st) (seat : ℕ) (stage : Stage) (none : re
           omega (arith, sound.room, counts, ap one same);
     }
 
--- a get and a put are for seats that may end too
-pub get_idle : (m : Meaning) (seat cell : ℕ) → refusal_of m (calls.Get seat cell) ≡ None → refusal_of m (calls.End seat) ≡ None
-get_idle m seat cell e =
-    let place = none_above (nat_le seat_count seat) _ (seat_refusal m (calls.Get seat cell)) e in
-    cond-false (nat_le seat_count seat) _ _ place.0 ∙ idle_get (seat_part m seat) place.1
-  where
-    idle_get : (part : Option Open) → get_refusal m cell part ≡ None → end_refusal part ≡ None
-    idle_get None q = q
-    idle_get (Some o) q = cond-false (is_busy o) _ None (none_above (is_busy o) _ _ q).0
-
-pub put_idle : (m : Meaning) (seat cell value : ℕ) → refusal_of m (calls.Put seat cell value) ≡ None → refusal_of m (calls.End seat) ≡ None
-put_idle m seat cell value e =
-    let place = none_above (nat_le seat_count seat) _ (seat_refusal m (calls.Put seat cell value)) e in
-    cond-false (nat_le seat_count seat) _ _ place.0 ∙ idle_put (seat_part m seat) place.1
-  where
-    idle_put : (part : Option Open) → put_refusal m cell part ≡ None → end_refusal part ≡ None
-    idle_put None q = q
-    idle_put (Some o) q = cond-false (is_busy o) _ None (none_above (is_busy o) _ _ q).0
-
-room_left : (found full : Bool) → (not found && full) ≡ false → (found || not full) ≡ true
-room_left true full e = refl
-room_left false true e = absurd (true≢false e)
-room_left false false e = refl
-
-not_leb : (m n : ℕ) → not (nat_le m n) ≡ nat_lt n m
-not_leb m n = grind (arith, nat_tests)
-
 -- a put that is accepted finds room
+room_left : (m : Meaning) (cell : ℕ) (o : Open) → put_refusal m cell (Some o) ≡ None → has_room cell o.writes ≡ true
+room_left m cell o e = grind (arith, nat_tests)
+
 pub put_fits : (st : State) → Sound st → (seat cell value : ℕ) → refusal_of (meaning_of st) (calls.Put seat cell value) ≡ None → (t : Turn) → turn_of st.turn seat ≡ Some t → has_room cell (entries t.writes) ≡ true
 put_fits st sound seat cell value e t is =
-    let place = none_above (nat_le seat_count seat) _ (seat_refusal (meaning_of st) (calls.Put seat cell value)) e in
-    let part = part_is st sound.seats sound.within seat (leb-false seat_count seat place.0) ∙ ap (λ x. part_with_turn st x seat) is in
-    let o = turn_part t st.number (latest st) in
-    let refusal : put_refusal (meaning_of st) cell (Some o) ≡ None = ap (put_refusal (meaning_of st) cell) (sym part) ∙ place.1 in
-    let after-busy = (none_above (is_busy o) _ _ refusal).1 in
-    let after-cell = (none_above (nat_le (length (latest st)) cell) _ _ after-busy).1 in
-    let after-kind = (none_above (not (is_writer t.kind)) _ _ after-cell).1 in
-    let not_full = (none_above (lacks_room cell (entries t.writes)) _ None after-kind).0 in
-    ap (λ (b : Bool). is_some (written cell (entries t.writes)) || b) (sym (not_leb max_writes (length (entries t.writes)))) ∙ room_left (is_some (written cell (entries t.writes))) (nat_le max_writes (length (entries t.writes))) not_full
+    let place = seat_place (meaning_of st) (calls.Put seat cell value) e in
+    let part = part_is st sound.seats sound.within seat place.0 ∙ ap (λ x. part_with_turn st x seat) is in
+    room_left (meaning_of st) cell (turn_part t st.number (latest st)) (ap (put_refusal (meaning_of st) cell) (sym part) ∙ place.1)

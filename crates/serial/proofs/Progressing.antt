@@ -1,6 +1,6 @@
 -- What a step finds: a seat without the turn waits, and the one that has it is busy.
 use Rattle.std.specs.Prelude.{◌≡◌, ℕ, false, true, not, ◌&&◌, is_some, Some, None, Option, ◌==◌, refl}
-use Rattle.std.proofs.Common.{sym, ap, ◌∙◌, arith}
+use Rattle.std.proofs.Common.{ap, ◌∙◌, arith}
 use Rattle.std.proofs.lemmas.Bool.{not-false}
 use Rattle.book.specs.declared.answer.Word.TheVariants as words
 use Rattle.book.specs.declared.call.Call.TheVariants as calls
@@ -10,9 +10,8 @@ use Rattle.book.specs.Meaning.{Open, seat_part}
 use Rattle.serial.specs.declared.state.State.{State}
 use Rattle.serial.specs.declared.state.Turn.{Turn}
 use Rattle.serial.specs.Moves.{SeatSteps}
-use Rattle.serial.specs.States.{has_turn, latest, meaning_of, stage_request, turn_part}
+use Rattle.serial.specs.States.{has_turn, meaning_of}
 use Rattle.serial.proofs.Accepting.{none_above, seat_place}
-use Rattle.serial.proofs.Stepping.{holder_part}
 use Rattle.serial.specs.Laws.{Sound}
 
 busy_part : (part : Option Open) → step_refusal part ≡ None → (o : Open) × (part ≡ Some o) × (is_busy o ≡ true)
@@ -24,13 +23,3 @@ pub waits_now : (st : State) → Sound st → (t : Turn) → st.turn ≡ Some t 
 waits_now st sound t e seat apart none =
     let found = busy_part (seat_part (meaning_of st) seat) (seat_place (meaning_of st) (calls.Step seat) none).1 in
     (found.0, found.1, effects.waits (ap (λ x. is_some x && not (has_turn x seat)) e ∙ ap not apart))
-
--- the turn's seat is busy
-pub turn_busy : (st : State) → Sound st → (t : Turn) → st.turn ≡ Some t → (seat : ℕ) → t.seat ≡ seat → refusal_of (meaning_of st) (calls.Step seat) ≡ None → is_some (stage_request t.stage) ≡ true
-turn_busy st sound t e seat same none =
-    let found = busy_part (seat_part (meaning_of st) seat) (seat_place (meaning_of st) (calls.Step seat) none).1 in
-    let part : Some (turn_part t st.number (latest st)) ≡ Some found.0 = sym (holder_part st sound t e) ∙ ap (seat_part (meaning_of st)) same ∙ found.1 in
-    ap is_busy (same_open part) ∙ found.2
-  where
-    same_open : {x y : Open} → Some x ≡ Some y → x ≡ y
-    same_open {x} {y} q = cc

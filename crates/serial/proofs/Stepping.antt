@@ -1,6 +1,6 @@
 -- Steps of the serial engine.
-use Rattle.std.specs.Prelude.{◌≡◌, ℕ, ◌+◌, ◌-◌, ◌<◌, ◌≤◌, Bool, true, false, not, ◌&&◌, ◌⊎◌, List, [], ◌∷◌, ◌++◌, map, length, get_or, take, drop, set, is_some, Some, None, Option, slice_index_or, slice_set, refl}
-use Rattle.std.proofs.Common.{inl, inr, sym, ap, subst, ◌∙◌, arith, length-append, length-drop, length-set}
+use Rattle.std.specs.Prelude.{◌≡◌, ℕ, ◌+◌, ◌<◌, ◌≤◌, Bool, true, false, not, ◌&&◌, ◌⊎◌, List, [], ◌∷◌, ◌++◌, map, length, get_or, take, drop, set, is_some, Some, None, Option, slice_index_or, slice_set, refl}
+use Rattle.std.proofs.Common.{inl, inr, sym, ap, subst, ◌∙◌, arith, length-set}
 use Rattle.std.specs.List.{push}
 use Rattle.std.proofs.lemmas.List.{length-take-le, take_at}
 use Rattle.std.proofs.lemmas.Bool.{true≢false}
@@ -10,7 +10,7 @@ use Rattle.book.specs.declared.call.Call.TheVariants as calls
 use Rattle.book.specs.declared.call.Kind.{Kind}
 use Rattle.book.specs.declared.call.Kind.TheVariants.{Reader, Writer}
 use Rattle.book.specs.declared.write_set.WriteSet.{WriteSet}
-use Rattle.book.specs.Calls.{has_made, is_writer, numbers_taken, refusal_of, step_refusal, will_make}
+use Rattle.book.specs.Calls.{has_made, is_writer, numbers_taken, refusal_of, will_make}
 use Rattle.book.specs.Effects as effects
 use Rattle.book.specs.Effects.{committed, onward, Steps, tells, with_seat}
 use Rattle.book.specs.Meaning.{Meaning, nothing, Open, opening, seat_part, Sight, view}
@@ -188,12 +188,6 @@ module _ (st : State) (sound : Sound st) (free : st.turn ≡ None) (seat : ℕ) 
   part_waits : seat_part (meaning_of st) seat ≡ waiting_part (slice_index_or st.waiting seat None)
   part_waits = part_is st sound.seats sound.within seat at_place ∙ ap (λ x. part_with_turn st (turn_of x seat) seat) free
 
-  pub some_waits : get_or st.waiting seat None ≡ None → ⊥
-  some_waits none =
-      let refusal = ap step_refusal (sym (ap waiting_part none) ∙ sym part_waits) ∙ (seat_place (meaning_of st) (calls.Step seat) busy).1 in
-      let z : ◌≡◌ {A = ℕ} 0 1 = cc in
-      omega arith
-
   module _ (kind : Kind) (ws : WriteSet) (is : get_or st.waiting seat None ≡ Some kind) (empty : entries ws ≡ []) where
     abbrev taker : Turn
     taker = record { seat = seat; kind = kind; stage = Ready; writes = ws }
@@ -245,6 +239,3 @@ module _ (cells now : List CellValue) (n k : ℕ) (ws vs : List Write) (k-is : k
 
   pub front_written : take n (now ++ drop k cells) ≡ applied ws (take n cells)
   front_written = take_at now (drop k cells) n now_long ∙ now_is
-
-  pub front_length : length (now ++ drop k cells) ≡ length cells
-  front_length = omega (arith, length-append now (drop k cells), length-drop k cells, now_long)

@@ -59,9 +59,10 @@ impl Serial {
         requires room { (t : Turn) → turn_of self.old.state.turn seat ≡ Some t → stage_room stage t.kind t.writes ≡ true }
         ensures { Asked (meaning_of self.old.state) seat (stage_request stage) (meaning_of self.new.state) }
     {
-        if let Some(turn) = self.state.turn_of(seat) {
-            self.state.turn = Some(Turn { stage, ..turn });
-        }
+        let Some(turn) = self.state.turn_of(seat) else {
+            return unreachable();
+        };
+        self.state.turn = Some(Turn { stage, ..turn });
     }
 
     // The turn is free: the seat, whose opening waits, takes it.

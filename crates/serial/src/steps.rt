@@ -80,18 +80,16 @@ impl State {
 
 // The array with each value written into its cell, as far as the cells go.
 pub(crate) fn written_over(
-    cells: [Value; MAX_CELLS],
+    mut cells: [Value; MAX_CELLS],
     count: usize,
     writes: &[Write],
 ) -> [Value; MAX_CELLS]
-    requires long { length cells ≡ 64 }
-    requires few { count ≤ 64 }
+    requires { count ≤ 64 }
     ensures long { length result ≡ 64 }
     ensures front { take count result ≡ applied writes.now (take count cells) }
 {
-    let mut all = cells;
-    write_all(&mut all[0..count], writes);
-    all
+    write_all(&mut cells[..count], writes);
+    cells
 }
 
 // The cells, and zeros behind them.
@@ -101,9 +99,7 @@ pub(crate) fn filled(cells: &[Value]) -> [Value; MAX_CELLS]
     ensures front { take (length cells.now) result ≡ cells.now }
 {
     let mut all = [0; MAX_CELLS];
-    for (i, value) in cells.iter().enumerate() {
-        all[i] = *value;
-    }
+    all[..cells.len()].copy_from_slice(cells);
     all
 }
 

@@ -7,15 +7,14 @@ pub invariant_of-self : goal.invariant_of-self
 invariant_of-self c =
     let e = c.args.self.now in
     let is = sym c.turn_of.ensures ∙ c.in-Some.is in
-    let s = asks_sound e.state (sound_of e) c.args.seat c.args.stage c.requires.idle c.requires.unmade c.in-Some.turn is (c.requires.room c.in-Some.turn is) in
-    record { cells = s.cells; count = s.count; seats = s.seats; within = s.within; fits = s.fits; room = s.room }
+    asks_sound e.state (sound_of e) c.args.seat c.args.stage c.requires.idle c.requires.unmade c.in-Some.turn is (c.requires.room c.in-Some.turn is)
 
-pub returns-in-Some : goal.returns-in-Some
-returns-in-Some c =
+pub returns : goal.returns
+returns c =
     let e = c.args.self.now in
     asks e.state (sound_of e) c.args.seat c.args.stage c.requires.idle c.requires.unmade c.in-Some.turn (sym c.turn_of.ensures ∙ c.in-Some.is)
 
-pub returns-in_default : goal.returns-in_default
-returns-in_default c =
+pub unreachable-requires : goal.unreachable-requires
+unreachable-requires c =
     let e = c.args.self.now in
-    absurd (some_turn e.state (sound_of e) c.args.seat c.args.stage c.requires.idle c.requires.unmade (sym c.turn_of.ensures ∙ c.in_default.is))
+    some_turn e.state (sound_of e) c.args.seat c.args.stage c.requires.idle c.requires.unmade (sym c.turn_of.ensures ∙ c.in_default.is)
