@@ -37,6 +37,7 @@ impl TryFrom<u32> for Seat {
 }
 
 impl Seat {
+    // All seats, in order.
     pub const ALL: [Seat; SEATS as usize] = [
         Seat { number: 0 },
         Seat { number: 1 },

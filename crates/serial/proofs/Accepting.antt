@@ -1,7 +1,7 @@
 -- Accepted requests on the serial engine.
 use Rattle.std.specs.Prelude.{◌≡◌, ℕ, ◌+◌, ◌<◌, ◌≤◌, Bool, true, false, not, ◌&&◌, List, [], map, length, set, is_some, Some, None, count_by, Option, ◌==◌, ◌≢◌, nat_le, slice_index_or, slice_set, refl}
 use Rattle.std.proofs.Common.{inl, inr, sym, ap, ◌∙◌, arith, length-set}
-use Rattle.std.proofs.lemmas.Bool.{cases_Bool, cond-false, cond-true, eqb-true, leb-false, true≢false}
+use Rattle.std.proofs.lemmas.Bool.{cases_Bool, cond-false, cond-true, eqb-true, leb-false}
 use Rattle.std.proofs.lemmas.Bool.Decides.{nat_tests}
 use Rattle.book.specs.declared.call.Call.{Call}
 use Rattle.book.specs.declared.call.Call.TheVariants as calls
@@ -26,7 +26,7 @@ use Rattle.serial.proofs.SeatLists.{count_set, goes_on, one, waits_now}
 use Rattle.serial.specs.Laws.{Sound, part_is, seats_sized}
 
 pub none_above : (b : Bool) (r : Refusal) (x : Option Refusal) → if_then b r x ≡ None → (b ≡ false) × (x ≡ None)
-none_above true r x e = let z : ◌≡◌ {A = ℕ} 0 1 = cc in absurd (omega arith)
+none_above true r x e = cc
 none_above false r x e = (refl, e)
 
 pub seat_place : (m : Meaning) (call : Call) → refusal_of m call ≡ None → (seat_of call < 8) × (seat_refusal m call ≡ None)
@@ -39,13 +39,13 @@ taken_after m m' s part sized place effect = ap (λ (l : List (Option Open)). co
 -- openings
 free_part : (m : Meaning) (kind : Kind) (part : Option Open) → open_refusal m kind part ≡ None → (part ≡ None) × ((is_writer kind && nat_le max_number (numbers_taken m)) ≡ false)
 free_part m kind None e = (refl, (none_above (is_writer kind && nat_le max_number (numbers_taken m)) _ None e).0)
-free_part m kind (Some o) e = let z : ◌≡◌ {A = ℕ} 0 1 = cc in absurd (omega arith)
+free_part m kind (Some o) e = cc
 
 no_turn : (st : State) (s : ℕ) (turn : Option Turn) → part_with_turn st (turn_of turn s) s ≡ None → has_turn turn s ≡ false
 no_turn st s None e = refl
 no_turn st s (Some t) e =
     elim (cases_Bool (t.seat == s)) [
-      | inl on ↦ let z : ◌≡◌ {A = ℕ} 0 1 = (let q = ap (λ x. part_with_turn st x s) (sym (cond-true (t.seat == s) (Some t) None on)) ∙ e in cc) in absurd (omega arith)
+      | inl on ↦ let q = ap (λ x. part_with_turn st x s) (sym (cond-true (t.seat == s) (Some t) None on)) ∙ e in cc
       | inr off ↦ off
     ]
 
@@ -85,23 +85,19 @@ module _ (st : State) (sound : Sound st) (kind : Kind) (seat : ℕ) (none : refu
 
 -- further requests
 pub turn_found : (turn : Option Turn) (s : ℕ) (t : Turn) → turn_of turn s ≡ Some t → (turn ≡ Some t) × (t.seat ≡ s)
-turn_found None s t e = let z : ◌≡◌ {A = ℕ} 0 1 = cc in absurd (omega arith)
+turn_found None s t e = cc
 turn_found (Some u) s t e =
     elim (cases_Bool (u.seat == s)) [
-      | inl on ↦ let q = sym (cond-true (u.seat == s) (Some u) None on) ∙ e in (q, ap seat_part_of (sym q) ∙ eqb-true u.seat s on)
-      | inr off ↦ let q = sym (cond-false (u.seat == s) (Some u) None off) ∙ e in let z : ◌≡◌ {A = ℕ} 0 1 = cc in absurd (omega arith)
+      | inl on ↦ let q = sym (cond-true (u.seat == s) (Some u) None on) ∙ e in let at = eqb-true u.seat s on in (q, cc)
+      | inr off ↦ let q = sym (cond-false (u.seat == s) (Some u) None off) ∙ e in cc
     ]
-  where
-    seat_part_of : Option Turn → ℕ
-    seat_part_of None = 0
-    seat_part_of (Some x) = x.seat
 
 ready_stage : (stage : Stage) → is_some (stage_request stage) ≡ false → stage ≡ Ready
 ready_stage Ready e = refl
-ready_stage (Getting cell) e = absurd (true≢false e)
-ready_stage (Putting write) e = absurd (true≢false e)
-ready_stage Ending e = absurd (true≢false e)
-ready_stage Made e = absurd (true≢false e)
+ready_stage (Getting cell) e = cc
+ready_stage (Putting write) e = cc
+ready_stage Ending e = cc
+ready_stage Made e = cc
 
 owed_few : (stage : Stage) (kind : Kind) → stage_owed stage kind ≤ 2
 owed_few Ready kind = omega arith
@@ -112,7 +108,7 @@ owed_few Ending Writer = omega arith
 owed_few Made kind = omega arith
 
 idle_part : (part : Option Open) → end_refusal part ≡ None → (o : Open) × (part ≡ Some o) × (is_busy o ≡ false)
-idle_part None e = let z : ◌≡◌ {A = ℕ} 0 1 = cc in absurd (omega arith)
+idle_part None e = cc
 idle_part (Some o) e = (o, refl, (none_above (is_busy o) _ None e).0)
 
 -- an idle seat has the turn, and its transaction is ready
@@ -120,24 +116,16 @@ idle_has_turn : (st : State) (s : ℕ) (turn : Option Turn) (o : Open) → part_
 idle_has_turn st s None o e idle = absurd (waiting_busy (slice_index_or st.waiting s None) e)
   where
     waiting_busy : (k : Option Kind) → waiting_part k ≢ Some o
-    waiting_busy None q = let z : ◌≡◌ {A = ℕ} 0 1 = cc in omega arith
-    waiting_busy (Some kind) q = true≢false (ap busy_part q ∙ idle)
-      where
-        busy_part : Option Open → Bool
-        busy_part None = true
-        busy_part (Some x) = is_busy x
-idle_has_turn st s (Some t) o e idle = (t, refl, ready_stage t.stage (ap busy_part e ∙ idle))
-  where
-    busy_part : Option Open → Bool
-    busy_part None = false
-    busy_part (Some x) = is_busy x
+    waiting_busy None q = cc
+    waiting_busy (Some kind) q = cc
+idle_has_turn st s (Some t) o e idle = (t, refl, ready_stage t.stage (let is : turn_part t st.number (latest st) ≡ o = cc in ap is_busy is ∙ idle))
 
 asked_part : (stage : Stage) (t : Turn) (n : ℕ) (cells : List CellValue) → t.stage ≡ Ready → has_made (stage_sight stage 0 []) ≡ false → Some (turn_part (record { seat = t.seat; kind = t.kind; stage = stage; writes = t.writes }) n cells) ≡ asked_for (stage_request stage) (stage_owed stage t.kind) (Some (turn_part t n cells))
 asked_part Ready t n cells ready unmade = ap (λ (x : Stage). Some (turn_part (record { seat = t.seat; kind = t.kind; stage = x; writes = t.writes }) n cells)) (sym ready)
 asked_part (Getting cell) t n cells ready unmade = ap (λ (x : Stage). asked_for (stage_request (Getting cell)) 1 (Some (turn_part (record { seat = t.seat; kind = t.kind; stage = x; writes = t.writes }) n cells))) (sym ready)
 asked_part (Putting write) t n cells ready unmade = ap (λ (x : Stage). asked_for (stage_request (Putting write)) 1 (Some (turn_part (record { seat = t.seat; kind = t.kind; stage = x; writes = t.writes }) n cells))) (sym ready)
 asked_part Ending t n cells ready unmade = ap (λ (x : Stage). asked_for (stage_request Ending) (stage_owed Ending t.kind) (Some (turn_part (record { seat = t.seat; kind = t.kind; stage = x; writes = t.writes }) n cells))) (sym ready)
-asked_part Made t n cells ready unmade = absurd (true≢false unmade)
+asked_part Made t n cells ready unmade = cc
 
 pub not_made : (stage : Stage) (n : ℕ) (cells : List CellValue) → has_made (stage_sight stage 0 []) ≡ has_made (stage_sight stage n cells)
 not_made Ready n cells = refl
@@ -157,7 +145,7 @@ module _ (st : State) (sound : Sound st) (seat : ℕ) (stage : Stage) (none : re
   found = idle_has_turn st seat (turn_of st.turn seat) idle.0 (sym (part_is st sound.seats sound.within seat at_place) ∙ idle.1) idle.2
 
   pub some_turn : turn_of st.turn seat ≡ None → ⊥
-  some_turn e = let q = found.1 in let z : ◌≡◌ {A = ℕ} 0 1 = cc in omega arith
+  some_turn e = let q = found.1 in cc
 
   module _ (t : Turn) (is : turn_of st.turn seat ≡ Some t) where
     abbrev next : Turn
@@ -167,10 +155,7 @@ module _ (st : State) (sound : Sound st) (seat : ℕ) (stage : Stage) (none : re
     turn_is = turn_found st.turn seat t is
 
     ready : t.stage ≡ Ready
-    ready = ap (λ (x : Turn). x.stage) (same t found.0 (sym is ∙ found.1)) ∙ found.2
-      where
-        same : (x y : Turn) → Some x ≡ Some y → x ≡ y
-        same x y e = cc
+    ready = let same : t ≡ found.0 = (let q = found.1 in cc) in ap (λ (x : Turn). x.stage) same ∙ found.2
 
     old_seats : (meaning_of st).seats ≡ with_turn (Some t) st.number (latest st) (map waiting_part st.waiting)
     old_seats = ap (λ x. with_turn x st.number (latest st) (map waiting_part st.waiting)) turn_is.0

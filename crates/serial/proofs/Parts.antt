@@ -1,4 +1,4 @@
--- Which refusal a call meets, told by the part of its seat.
+-- The seats of the meaning, one by one.
 use Rattle.std.specs.Prelude.{◌≡◌, ◌<◌, map, length, None}
 use Rattle.std.proofs.Common.{sym, ◌∙◌, arith, zero-add}
 use Rattle.std.specs.List.{range_with_len}

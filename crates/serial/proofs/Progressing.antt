@@ -1,6 +1,6 @@
 -- What a step finds: a seat without the turn waits, and the one that has it is busy.
 use Rattle.std.specs.Prelude.{◌≡◌, ℕ, false, true, not, ◌&&◌, is_some, Some, None, Option, ◌==◌, refl}
-use Rattle.std.proofs.Common.{ap, ◌∙◌, arith}
+use Rattle.std.proofs.Common.{ap, ◌∙◌}
 use Rattle.std.proofs.lemmas.Bool.{not-false}
 use Rattle.book.specs.declared.answer.Word.TheVariants as words
 use Rattle.book.specs.declared.call.Call.TheVariants as calls
@@ -15,7 +15,7 @@ use Rattle.serial.proofs.Accepting.{none_above, seat_place}
 use Rattle.serial.specs.Laws.{Sound}
 
 busy_part : (part : Option Open) → step_refusal part ≡ None → (o : Open) × (part ≡ Some o) × (is_busy o ≡ true)
-busy_part None e = let z : ◌≡◌ {A = ℕ} 0 1 = cc in absurd (omega arith)
+busy_part None e = cc
 busy_part (Some o) e = (o, refl, not-false (is_busy o) (none_above (not (is_busy o)) _ None e).0)
 
 -- a seat that is not the turn's waits

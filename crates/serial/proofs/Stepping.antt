@@ -1,9 +1,7 @@
 -- Steps of the serial engine.
-use Rattle.std.specs.Prelude.{◌≡◌, ℕ, ◌+◌, ◌<◌, ◌≤◌, Bool, true, false, not, ◌&&◌, ◌⊎◌, List, [], ◌∷◌, ◌++◌, map, length, get_or, take, drop, set, is_some, Some, None, Option, slice_index_or, slice_set, refl}
+use Rattle.std.specs.Prelude.{◌≡◌, ℕ, ◌+◌, ◌<◌, ◌≤◌, Bool, true, false, not, ◌&&◌, ◌⊎◌, List, [], ◌∷◌, map, length, get_or, take, set, is_some, Some, None, Option, slice_index_or, slice_set, refl}
 use Rattle.std.proofs.Common.{inl, inr, sym, ap, subst, ◌∙◌, arith, length-set}
 use Rattle.std.specs.List.{push}
-use Rattle.std.proofs.lemmas.List.{length-take-le, take_at}
-use Rattle.std.proofs.lemmas.Bool.{true≢false}
 use Rattle.book.specs.declared.answer.Word.{Word}
 use Rattle.book.specs.declared.answer.Word.TheVariants as words
 use Rattle.book.specs.declared.call.Call.TheVariants as calls
@@ -29,9 +27,13 @@ use Rattle.serial.proofs.SeatLists.{count_one, gives_up, goes_on, one, takes_tur
 use Rattle.serial.specs.Laws.{Sound, part_is, seats_sized, turn_goes_on, turn_has_part}
 
 -- the last of the list is written first
-pub applied_last : (ws : List Write) (w : Write) (cells : List CellValue) → applied (push ws w) cells ≡ applied ws (slice_set cells w.cell w.value)
+applied_last : (ws : List Write) (w : Write) (cells : List CellValue) → applied (push ws w) cells ≡ applied ws (slice_set cells w.cell w.value)
 applied_last [] w cells = refl
 applied_last (v ∷ ws) w cells = ap (λ (l : List CellValue). slice_set l v.cell v.value) (applied_last ws w cells)
+
+-- one more write is made, the last of those that were left
+pub write_more : (left rest : List Write) (w : Write) (cells all : List CellValue) → left ≡ push rest w → applied left cells ≡ all → applied rest (slice_set cells w.cell w.value) ≡ all
+write_more left rest w cells all last so_far = sym (applied_last rest w cells) ∙ ap (λ (ws : List Write). applied ws cells) (sym last) ∙ so_far
 
 -- a step, told by what was answered and by the state that it led to
 pub steps_to : (m : Meaning) (seat : ℕ) (o : Open) (r answer : Word × ℕ) (st after : State) → r ≡ answer → st ≡ after → Steps m seat o answer.0 answer.1 (meaning_of after) → Steps m seat o r.0 r.1 (meaning_of st)
@@ -100,7 +102,7 @@ module _ (st : State) (sound : Sound st) (t : Turn) (turn_is : st.turn ≡ Some 
   put_room write asked = ap (λ (x : Stage). stage_room x t.kind t.writes) (sym asked) ∙ ap turn_room (sym turn_is) ∙ sound.fits
 
   writer_is : (k : Kind) → is_writer k ≡ true → k ≡ Writer
-  writer_is Reader e = absurd (true≢false (sym e))
+  writer_is Reader e = cc
   writer_is Writer e = refl
 
   -- only writers make
@@ -224,18 +226,3 @@ module _ (st : State) (sound : Sound st) (free : st.turn ≡ None) (seat : ℕ) 
           let same : will_make (seat_part (meaning_of st) seat) ≡ will_make (Some (turn_part taker st.number (latest st))) = ap will_make waits_here in
           omega (arith, sound.room, counts, ap one same);
     }
-
--- writing the front of an array
-applied_length : (ws : List Write) (l : List CellValue) → length (applied ws l) ≡ length l
-applied_length [] l = refl
-applied_length (w ∷ ws) l = length-set (applied ws l) w.cell w.value ∙ applied_length ws l
-
-module _ (cells now : List CellValue) (n k : ℕ) (ws vs : List Write) (k-is : k ≡ n) (within : n ≤ length cells) (wrote : now ≡ applied vs (take k cells)) (same : vs ≡ ws) where
-  now_is : now ≡ applied ws (take n cells)
-  now_is = wrote ∙ (λ i. applied (same i) (take (k-is i) cells))
-
-  now_long : length now ≡ n
-  now_long = ap length now_is ∙ applied_length ws (take n cells) ∙ length-take-le n cells within
-
-  pub front_written : take n (now ++ drop k cells) ≡ applied ws (take n cells)
-  front_written = take_at now (drop k cells) n now_long ∙ now_is

@@ -12,7 +12,7 @@ ghost use Rattle.serial.specs.States.{latest, meaning_of, stage_request, stage_s
 use crate::serial::Serial;
 use crate::state::{Stage, State, Turn};
 use crate::steps::{filled, written_over};
-use book::{Kind, Seat, Value, Word, WriteSet};
+use book::{Kind, SEATS, Seat, Value, Word, WriteSet};
 
 impl Serial {
     // A book with these cells and this number, all of its seats free.
@@ -26,7 +26,7 @@ impl Serial {
                 cells: filled(cells),
                 count: cells.len(),
                 number,
-                waiting: [None; 8],
+                waiting: [None; SEATS as usize],
                 turn: None,
             },
         }
@@ -71,8 +71,7 @@ impl Serial {
         requires busy { refusal_of (meaning_of self.old.state) (Step seat) ≡ None }
         ensures { SeatSteps (meaning_of self.old.state) seat result.0 result.1 (meaning_of self.new.state) }
     {
-        let waiting = self.state.waiting[seat.index()];
-        let Some(kind) = waiting else {
+        let Some(kind) = self.state.waiting[seat.index()] else {
             return unreachable();
         };
         self.state.take_turn(seat, kind, WriteSet::empty())

@@ -6,7 +6,7 @@ ghost use Rattle.serial.specs.Seats.{part_at, refusal_at};
 ghost use Rattle.serial.specs.States.{meaning_of};
 
 use crate::serial::Serial;
-use book::{Call, Kind, MAX_NUMBER, Refusal, SEATS, Seat, Standing};
+use book::{Call, Kind, MAX_NUMBER, Refusal, Seat, Standing};
 
 impl Serial {
     // The seat that the call is on, or the refusal that the call meets.

@@ -1,5 +1,5 @@
 // What the serial engine keeps, as plain data.
-use book::{Kind, MAX_CELLS, Seat, Value, Write, WriteSet};
+use book::{Kind, MAX_CELLS, SEATS, Seat, Value, Write, WriteSet};
 
 // What the transaction that has the turn is doing.
 #[derive(Clone, Copy)]
@@ -27,6 +27,6 @@ pub struct State {
     pub count: usize,
     pub number: u32,
     // The openings that wait for the turn, seat by seat.
-    pub waiting: [Option<Kind>; 8],
+    pub waiting: [Option<Kind>; SEATS as usize],
     pub turn: Option<Turn>,
 }

@@ -1,8 +1,8 @@
-use Rattle.std.proofs.Common.{refl, arith}
-use Rattle.serial.proofs.Stepping.{front_written}
+use Rattle.std.proofs.Common.{◌≡◌, length, ◌∙◌, arith}
+use Rattle.std.proofs.lemmas.List.{length-take-le, take_at}
 use Rattle.serial.proofs.steps.written_over.Goals as goal
 
 pub returns-clause-front : goal.returns-clause-front
 returns-clause-front c =
-    let cells = c.args.cells in
-    front_written cells c.write_all.new.cells c.args.count _ c.args.writes.now c.args.writes.now (omega arith) (omega arith) c.write_all.ensures refl
+    let long : length c.write_all.new.cells ≡ c.args.count = omega (arith, length-take-le c.args.count c.args.cells (omega arith)) in
+    take_at c.write_all.new.cells _ c.args.count long ∙ c.write_all.ensures
