@@ -1,10 +1,12 @@
 // A place for one transaction.
 ghost use Rattle.std.specs.Prelude.{◌≡◌, ℕ, ◌<◌};
+ghost use Rattle.std.specs.List.{range_with_len};
 ghost use Rattle.book.specs.Seats.{seated};
 ghost use Rattle.book.specs.Sizes.{seat_count};
 
 use crate::engine::SEATS;
 use crate::refusal::Refusal;
+use std::array;
 use std::marker::Model;
 
 // A seat that the book has. Calls bear any number; here it is known to be one of a seat.
@@ -38,16 +40,20 @@ impl TryFrom<u32> for Seat {
 
 impl Seat {
     // All seats, in order.
-    pub const ALL: [Seat; SEATS as usize] = [
-        Seat { number: 0 },
-        Seat { number: 1 },
-        Seat { number: 2 },
-        Seat { number: 3 },
-        Seat { number: 4 },
-        Seat { number: 5 },
-        Seat { number: 6 },
-        Seat { number: 7 },
-    ];
+    pub fn all() -> [Seat; SEATS as usize]
+        ensures { result ≡ range_with_len 0 seat_count }
+    {
+        array::from_fn(
+            |place: usize| -> Seat
+                requires { place < seat_count }
+                ensures { result ≡ place }
+            {
+                Seat {
+                    number: place as u32,
+                }
+            },
+        )
+    }
 
     // Where the seat stands in a list of all seats.
     pub fn index(self) -> usize

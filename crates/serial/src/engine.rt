@@ -8,17 +8,13 @@ use book::{Call, Engine, Kind, MAX_CELLS, Refusal, Seat, Standing, Value, Word, 
 impl Engine for Serial {
     const BOUND: u32 = 2;
 
-    ghost bound = { 2 };
+    ghost BOUND = { 2 };
 
     ghost meaning = { λ e. meaning_of e.state };
 
     ghost progress = { λ e. someone_moves e.state (sound_of e) };
 
     ghost sized = { λ e. seats_sized e.state e.seats };
-
-    fn step_bound() -> u32 {
-        Self::BOUND
-    }
 
     fn start(version: u32, cells: &[Value]) -> Result<Serial, Refusal> {
         if cells.is_empty() || cells.len() > MAX_CELLS {

@@ -95,7 +95,7 @@ impl Serial {
     fn writers(&self) -> u32
         ensures { result ≡ count_by will_make (meaning_of self.now.state).seats }
     {
-        Seat::ALL
+        Seat::all()
             .iter()
             .filter(|seat| self.state.will_make(**seat))
             .count() as u32
