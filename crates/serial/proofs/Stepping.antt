@@ -1,7 +1,9 @@
 -- Steps of the serial engine.
-use Rattle.std.specs.Prelude.{◌≡◌, ℕ, ◌+◌, ◌<◌, ◌≤◌, Bool, true, false, not, ◌&&◌, ◌⊎◌, List, [], ◌∷◌, map, length, get_or, take, set, is_some, Some, None, Option, slice_index_or, slice_set, refl}
+use Rattle.std.specs.Prelude.{◌≡◌, ℕ, ◌+◌, ◌<◌, ◌≤◌, Bool, true, false, not, ◌&&◌, ◌⊎◌, List, [], ◌∷◌, map, get_or, set, is_some, Some, None, Option, Ok, Err, Result, slice_index_or, slice_set, refl}
 use Rattle.std.proofs.Common.{inl, inr, sym, ap, subst, ◌∙◌, arith, length-set}
 use Rattle.std.specs.List.{push}
+use Rattle.std.proofs.lemmas.Bool.{both_ways}
+use Rattle.book.specs.declared.refusal.Refusal.{Refusal}
 use Rattle.book.specs.declared.answer.Word.{Word}
 use Rattle.book.specs.declared.answer.Word.TheVariants as words
 use Rattle.book.specs.declared.call.Call.TheVariants as calls
@@ -13,7 +15,8 @@ use Rattle.book.specs.Effects as effects
 use Rattle.book.specs.Effects.{committed, onward, Steps, tells, with_seat}
 use Rattle.book.specs.Meaning.{Meaning, nothing, Open, opening, seat_part, Sight, view}
 use Rattle.book.specs.Writes.{applied, CellValue, with_put, Write}
-use Rattle.book.specs.WriteSets.{entries, has_room}
+use Rattle.book.specs.WriteSets.{entries, has_room, Puts}
+use Rattle.fixed_vec.specs.Listed.{Listed}
 use Rattle.serial.specs.declared.state.Stage.{Stage}
 use Rattle.serial.specs.declared.state.Stage.TheVariants.{Ending, Getting, Made, Putting, Ready}
 use Rattle.serial.specs.declared.state.State.{State}
@@ -34,6 +37,11 @@ applied_last (v ∷ ws) w cells = ap (λ (l : List CellValue). slice_set l v.cel
 -- one more write is made, the last of those that were left
 pub write_more : (left rest : List Write) (w : Write) (cells all : List CellValue) → left ≡ push rest w → applied left cells ≡ all → applied rest (slice_set cells w.cell w.value) ≡ all
 write_more left rest w cells all last so_far = sym (applied_last rest w cells) ∙ ap (λ (ws : List Write). applied ws cells) (sym last) ∙ so_far
+
+-- where there is room, the put joins the entries
+pub put_done : (p : Write) (ws ws' : List Write) (r : Result (Unit {0}) Refusal) → has_room p.cell ws ≡ true → Puts p ws ws' r → ws' ≡ with_put p ws
+put_done p ws ws' (Ok _) room (_, joined) = joined
+put_done p ws ws' (Err _) room (_, full, _) = absurd (both_ways (has_room p.cell ws) full room)
 
 -- a step, told by what was answered and by the state that it led to
 pub steps_to : (m : Meaning) (seat : ℕ) (o : Open) (r answer : Word × ℕ) (st after : State) → r ≡ answer → st ≡ after → Steps m seat o answer.0 answer.1 (meaning_of after) → Steps m seat o r.0 r.1 (meaning_of st)
@@ -77,8 +85,6 @@ module _ (st : State) (sound : Sound st) (t : Turn) (turn_is : st.turn ≡ Some 
 
   pub answered_sound : (ws : WriteSet) → has_made (stage_sight t.stage st.number (latest st)) ≡ false → Sound (answered ws)
   answered_sound ws unmade = record {
-    cells = sound.cells;
-    count = sound.count;
     seats = sound.seats;
     within = place;
     fits = refl;
@@ -121,8 +127,6 @@ module _ (st : State) (sound : Sound st) (t : Turn) (turn_is : st.turn ≡ Some 
 
   pub ended_sound : Sound (ended_at st t.seat)
   ended_sound = record {
-    cells = sound.cells;
-    count = sound.count;
     seats = length-set st.waiting t.seat None ∙ sound.seats;
     within = omega arith;
     fits = refl;
@@ -138,15 +142,15 @@ module _ (st : State) (sound : Sound st) (t : Turn) (turn_is : st.turn ≡ Some 
       (effects.ends_reader goes (ap stage_request at) kind st.number (latest st) (ap (λ (x : Stage). stage_sight x st.number (latest st)) at) (omega (arith, owed_is Ending Reader at kind)) _)
 
   -- made
-  module _ (cells : List CellValue) (long : length cells ≡ 64) (wrote : take st.count cells ≡ applied (entries t.writes) (latest st)) (at : t.stage ≡ Ending) (kind : t.kind ≡ Writer) where
+  module _ (cells : Listed CellValue) (wrote : cells.items ≡ applied (entries t.writes) (latest st)) (at : t.stage ≡ Ending) (kind : t.kind ≡ Writer) where
     abbrev made_turn : Turn
     made_turn = record { seat = t.seat; kind = t.kind; stage = Made; writes = t.writes }
 
     abbrev after : State
     after = committed_at st cells t
 
-    made_seats : (meaning_of after).seats ≡ slice_set (meaning_of st).seats t.seat (Some (turn_part made_turn (st.number + 1) (take st.count cells)))
-    made_seats = on made_turn (st.number + 1) (take st.count cells) refl
+    made_seats : (meaning_of after).seats ≡ slice_set (meaning_of st).seats t.seat (Some (turn_part made_turn (st.number + 1) cells.items))
+    made_seats = on made_turn (st.number + 1) cells.items refl
 
     made_is : committed (meaning_of st) t.seat (turn_part t st.number (latest st)) 1 (meaning_of after).waits ≡ meaning_of after
     made_is = (λ i. record { cells = sym wrote i; number = st.number + 1; seats = sym made_seats i; waits = (meaning_of after).waits })
@@ -162,17 +166,15 @@ module _ (st : State) (sound : Sound st) (t : Turn) (turn_is : st.turn ≡ Some 
     will : will_make (Some (turn_part t st.number (latest st))) ≡ true
     will = (λ i. is_writer (kind i) && not (has_made (saw i)))
 
-    will_not : will_make (Some (turn_part made_turn (st.number + 1) (take st.count cells))) ≡ false
+    will_not : will_make (Some (turn_part made_turn (st.number + 1) cells.items)) ≡ false
     will_not = ap (λ (k : Kind). is_writer k && not true) kind
 
     pub made_sound : Sound after
     made_sound = record {
-      cells = long;
-      count = sound.count;
       seats = sound.seats;
       within = place;
       fits = ap is_writer kind;
-      room = room_after after (Some (turn_part made_turn (st.number + 1) (take st.count cells))) made_seats (omega (arith, ap one will, ap one will_not));
+      room = room_after after (Some (turn_part made_turn (st.number + 1) cells.items)) made_seats (omega (arith, ap one will, ap one will_not));
     }
 
   -- a writer that has not made finds a number
@@ -216,8 +218,6 @@ module _ (st : State) (sound : Sound st) (free : st.turn ≡ None) (seat : ℕ) 
 
     pub taken_sound : Sound (taken_at st taker)
     taken_sound = record {
-      cells = sound.cells;
-      count = sound.count;
       seats = length-set st.waiting seat None ∙ sound.seats;
       within = at_place;
       fits = refl;

@@ -18,8 +18,6 @@ use Rattle.serial.specs.States.{has_turn, latest, meaning_of, turn_part, turn_se
 -- what the engine's type says of its state
 abbrev pub Sound : State → Type 0
 Sound st = record {
-  cells : length st.cells ≡ 64;
-  count : st.count ≤ 64;
   seats : length st.waiting ≡ 8;
   within : turn_seat st.turn < 8;
   fits : turn_room st.turn ≡ true;
@@ -27,7 +25,7 @@ Sound st = record {
 }
 
 pub sound_of : (e : Serial) → Sound e.state
-sound_of e = record { cells = e.cells; count = e.count; seats = e.seats; within = e.within; fits = e.fits; room = e.room }
+sound_of e = record { seats = e.seats; within = e.within; fits = e.fits; room = e.room }
 
 -- the parts of the seats in the meaning, one by one
 module _ (st : State) (sized : length st.waiting ≡ 8) where

@@ -7,6 +7,7 @@ use Rattle.book.specs.Effects.{asked, Steps, with_seat}
 use Rattle.book.specs.Meaning.{Meaning, Open, Request, seat_part}
 use Rattle.book.specs.Sizes.{seat_count}
 use Rattle.book.specs.Writes.{CellValue}
+use Rattle.fixed_vec.specs.Listed.{Listed}
 use Rattle.serial.specs.declared.state.Stage.TheVariants.{Made, Ready}
 use Rattle.serial.specs.declared.state.State.{State}
 use Rattle.serial.specs.declared.state.Turn.{Turn}
@@ -40,16 +41,16 @@ abbrev pub ready_turn : Turn → WriteSet → Turn
 ready_turn t writes = record { seat = t.seat; kind = t.kind; stage = Ready; writes = writes }
 
 abbrev pub waiting_at : State → ℕ → Option Kind → State
-waiting_at st s kind = record { cells = st.cells; count = st.count; number = st.number; waiting = slice_set st.waiting s kind; turn = st.turn }
+waiting_at st s kind = record { cells = st.cells; number = st.number; waiting = slice_set st.waiting s kind; turn = st.turn }
 
 abbrev pub turn_at : State → Turn → State
-turn_at st t = record { cells = st.cells; count = st.count; number = st.number; waiting = st.waiting; turn = Some t }
+turn_at st t = record { cells = st.cells; number = st.number; waiting = st.waiting; turn = Some t }
 
 abbrev pub taken_at : State → Turn → State
-taken_at st t = record { cells = st.cells; count = st.count; number = st.number; waiting = slice_set st.waiting t.seat None; turn = Some t }
+taken_at st t = record { cells = st.cells; number = st.number; waiting = slice_set st.waiting t.seat None; turn = Some t }
 
 abbrev pub ended_at : State → ℕ → State
-ended_at st s = record { cells = st.cells; count = st.count; number = st.number; waiting = slice_set st.waiting s None; turn = None }
+ended_at st s = record { cells = st.cells; number = st.number; waiting = slice_set st.waiting s None; turn = None }
 
-abbrev pub committed_at : State → List CellValue → Turn → State
-committed_at st cells t = record { cells = cells; count = st.count; number = st.number + 1; waiting = st.waiting; turn = Some (record { seat = t.seat; kind = t.kind; stage = Made; writes = t.writes }) }
+abbrev pub committed_at : State → Listed CellValue → Turn → State
+committed_at st cells t = record { cells = cells; number = st.number + 1; waiting = st.waiting; turn = Some (record { seat = t.seat; kind = t.kind; stage = Made; writes = t.writes }) }

@@ -1,5 +1,5 @@
 -- The meaning of the serial engine's state.
-use Rattle.std.specs.Prelude.{ℕ, Bool, false, not, ◌&&◌, List, [], map, take, is_some, Some, None, Option, ◌==◌, slice_set}
+use Rattle.std.specs.Prelude.{ℕ, Bool, false, not, ◌&&◌, List, [], map, is_some, Some, None, Option, ◌==◌, slice_set}
 use Rattle.book.specs.declared.call.Kind.{Kind}
 use Rattle.book.specs.declared.call.Kind.TheVariants.{Reader, Writer}
 use Rattle.book.specs.Meaning.{ending, getting, made, Meaning, nothing, Open, opening, putting, Request, Sight, view}
@@ -59,7 +59,7 @@ turn_seat None = 0
 turn_seat (Some t) = t.seat
 
 abbrev pub latest : State → List CellValue
-latest st = take st.count st.cells
+latest st = st.cells.items
 
 -- an opening waits while another seat has the turn
 abbrev pub meaning_of : State → Meaning

@@ -2,8 +2,8 @@ ghost use Rattle.serial.specs.States.{meaning_of};
 ghost use Rattle.serial.specs.Laws.{seats_sized, someone_moves, sound_of};
 
 use crate::serial::Serial;
-use crate::state::Stage;
-use book::{Call, Engine, Kind, MAX_CELLS, Refusal, Seat, Standing, Value, Word, Write};
+use crate::state::{Cells, Stage};
+use book::{Call, Engine, Kind, Refusal, Seat, Standing, Value, Word, Write};
 
 impl Engine for Serial {
     const BOUND: u32 = 2;
@@ -17,9 +17,10 @@ impl Engine for Serial {
     ghost sized = { λ e. seats_sized e.state e.seats };
 
     fn start(version: u32, cells: &[Value]) -> Result<Serial, Refusal> {
-        if cells.is_empty() || cells.len() > MAX_CELLS {
+        if cells.is_empty() {
             return Err(Refusal::CellCount);
         }
+        let cells = Cells::from_slice(cells, 0).or(Err(Refusal::CellCount))?;
         if version % 2 == 0 {
             return Err(Refusal::EvenVersion);
         }
@@ -66,14 +67,11 @@ impl Engine for Serial {
     }
 
     fn cell_count(&self) -> usize {
-        self.state.count
+        self.state.cells.len()
     }
 
     fn latest(&self, cell: u32) -> Result<Value, Refusal> {
-        if cell as usize >= self.state.count {
-            return Err(Refusal::NoSuchCell);
-        }
-        Ok(self.value_at(cell))
+        self.value_at(cell).ok_or(Refusal::NoSuchCell)
     }
 
     fn kind(&self, seat: u32) -> Result<Option<Kind>, Refusal> {

@@ -1,5 +1,5 @@
 // What the engine does, once it is known that it may.
-ghost use Rattle.std.specs.Prelude.{◌≡◌, ◌≤◌, true, false, [], length, is_some, Some, None, slice_index};
+ghost use Rattle.std.specs.Prelude.{◌≡◌, ◌≤◌, true, false, [], length, is_some, Some, None, slice_get};
 ghost use Rattle.book.specs.declared.call.Call.TheVariants.{End, Open, Step};
 ghost use Rattle.book.specs.Calls.{has_made, refusal_of};
 ghost use Rattle.book.specs.Effects.{Accepts};
@@ -10,21 +10,18 @@ ghost use Rattle.serial.specs.Seats.{turn_of};
 ghost use Rattle.serial.specs.States.{latest, meaning_of, stage_request, stage_sight};
 
 use crate::serial::Serial;
-use crate::state::{Stage, State, Turn};
-use crate::steps::{filled, written_over};
+use crate::state::{Cells, Stage, State, Turn};
 use book::{Kind, SEATS, Seat, Value, Word, WriteSet};
 
 impl Serial {
     // A book with these cells and this number, all of its seats free.
-    pub(crate) fn with_cells(number: u32, cells: &[Value]) -> Serial
-        requires few { length cells.now ≤ 64 }
-        requires room { number ≤ 2147483647 }
-        ensures { meaning_of result.state ≡ fresh number cells.now (meaning_of result.state).waits }
+    pub(crate) fn with_cells(number: u32, cells: Cells) -> Serial
+        requires { number ≤ 2147483647 }
+        ensures { meaning_of result.state ≡ fresh number cells.items (meaning_of result.state).waits }
     {
         Serial {
             state: State {
-                cells: filled(cells),
-                count: cells.len(),
+                cells,
                 number,
                 waiting: [None; SEATS as usize],
                 turn: None,
@@ -32,16 +29,11 @@ impl Serial {
         }
     }
 
-    // The latest value of a cell, and 0 where there is no such cell.
-    pub(crate) fn value_at(&self, cell: u32) -> Value
-        ensures { result ≡ slice_index (latest self.now.state) cell }
+    // The latest value of a cell, if there is such a cell.
+    pub(crate) fn value_at(&self, cell: u32) -> Option<Value>
+        ensures { result ≡ slice_get (latest self.now.state) cell }
     {
-        let at = cell as usize;
-        if at < self.state.count {
-            self.state.cells[at]
-        } else {
-            0
-        }
+        self.state.cells.as_slice().get(cell as usize).copied()
     }
 
     // An opening that was accepted waits for the turn.
@@ -86,7 +78,7 @@ impl Serial {
         match turn.stage {
             Stage::Ready => unreachable(),
             Stage::Getting { cell } => {
-                let latest = self.value_at(cell);
+                let latest = self.value_at(cell).unwrap_or(0);
                 self.state.tell(turn, cell, latest)
             },
             Stage::Putting { write } => {
@@ -95,11 +87,7 @@ impl Serial {
                 self.state.put(turn, writes)
             },
             Stage::Ending => match turn.kind {
-                Kind::Writer => {
-                    let State { cells, count, .. } = self.state;
-                    let cells = written_over(cells, count, turn.writes.as_slice());
-                    self.state.commit(turn, cells)
-                },
+                Kind::Writer => self.state.commit(turn),
                 Kind::Reader => self.state.give_up_turn(turn.seat),
             },
             Stage::Made => self.state.give_up_turn(turn.seat),

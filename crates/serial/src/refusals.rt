@@ -48,7 +48,7 @@ impl Serial {
         ensures { result_err result ≡ get_refusal (meaning_of self.now.state) cell (part_at self.now.state seat) }
     {
         self.may_end(seat)?;
-        if cell as usize >= self.state.count {
+        if cell as usize >= self.state.cells.len() {
             return Err(Refusal::NoSuchCell);
         }
         Ok(())

@@ -9,8 +9,6 @@ use crate::state::State;
 #[derive(Clone, Copy)]
 pub struct Serial {
     pub(crate) state: State,
-    ghost cells: { length state.cells ≡ 64 },
-    ghost count: { state.count ≤ 64 },
     ghost seats: { length state.waiting ≡ 8 },
     ghost within: { turn_seat state.turn < 8 },
     ghost fits: { turn_room state.turn ≡ true },

@@ -1,5 +1,8 @@
 // What the serial engine keeps, as plain data.
 use book::{Kind, MAX_CELLS, SEATS, Seat, Value, Write, WriteSet};
+use fixed_vec::FixedVec;
+
+pub type Cells = FixedVec<Value, MAX_CELLS>;
 
 // What the transaction that has the turn is doing.
 #[derive(Clone, Copy)]
@@ -23,8 +26,7 @@ pub struct Turn {
 
 #[derive(Clone, Copy)]
 pub struct State {
-    pub cells: [Value; MAX_CELLS],
-    pub count: usize,
+    pub cells: Cells,
     pub number: u32,
     // The openings that wait for the turn, seat by seat.
     pub waiting: [Option<Kind>; SEATS as usize],

@@ -6,9 +6,10 @@ ghost use Rattle.book.specs.Writes.{applied, written};
 ghost use Rattle.book.specs.WriteSets.{entries};
 ghost use Rattle.serial.specs.declared.state.Stage.TheVariants.{Ready};
 ghost use Rattle.serial.specs.Moves.{committed_at, ended_at, ready_turn, taken_at, turn_at};
+ghost use Rattle.serial.specs.States.{latest};
 
-use crate::state::{Stage, State, Turn};
-use book::{Kind, MAX_CELLS, Seat, Value, Word, Write, WriteSet};
+use crate::state::{Cells, Stage, State, Turn};
+use book::{Kind, Seat, Value, Word, Write, WriteSet};
 
 impl State {
     // The seat, which waited, takes the turn, and its opening is answered.
@@ -52,13 +53,14 @@ impl State {
         (Word::Put, 0)
     }
 
-    // The transaction's writes, which stand in `cells`, become the latest cells.
-    pub(crate) fn commit(&mut self, turn: Turn, cells: [Value; MAX_CELLS]) -> (Word, u32)
+    // The transaction's writes become the latest cells.
+    pub(crate) fn commit(&mut self, turn: Turn) -> (Word, u32)
         requires { self.old.number < 2147483647 }
-        ensures after { self.new ≡ committed_at self.old cells turn }
+        ensures after { self.new ≡ committed_at self.old self.new.cells turn }
+        ensures wrote { latest self.new ≡ applied (entries turn.writes) (latest self.old) }
         ensures answer { result ≡ (Made, self.old.number + 1) }
     {
-        self.cells = cells;
+        write_all(&mut self.cells, turn.writes.as_slice());
         self.number += 1;
         self.turn = Some(Turn {
             stage: Stage::Made,
@@ -78,39 +80,11 @@ impl State {
     }
 }
 
-// The array with each value written into its cell, as far as the cells go.
-pub(crate) fn written_over(
-    mut cells: [Value; MAX_CELLS],
-    count: usize,
-    writes: &[Write],
-) -> [Value; MAX_CELLS]
-    requires { count ≤ 64 }
-    ensures long { length result ≡ 64 }
-    ensures front { take count result ≡ applied writes.now (take count cells) }
-{
-    write_all(&mut cells[..count], writes);
-    cells
-}
-
-// The cells, and zeros behind them.
-pub(crate) fn filled(cells: &[Value]) -> [Value; MAX_CELLS]
-    requires { length cells.now ≤ 64 }
-    ensures long { length result ≡ 64 }
-    ensures front { take (length cells.now) result ≡ cells.now }
-{
-    let mut all = [0; MAX_CELLS];
-    all[..cells.len()].copy_from_slice(cells);
-    all
-}
-
-// Writes each value into its cell.
-fn write_all(cells: &mut [Value], writes: &[Write])
-    ensures { cells.new ≡ applied writes.now cells.old }
+// Writes each value into its cell, as far as the cells go. Of two for one cell the first of the list stays.
+fn write_all(cells: &mut Cells, writes: &[Write])
+    ensures { cells.new.items ≡ applied writes.now cells.old.items }
 {
     for write in writes.iter().rev() {
-        let at = write.cell as usize;
-        if at < cells.len() {
-            cells[at] = write.value;
-        }
+        cells.set(write.cell as usize, write.value);
     }
 }

@@ -4,4 +4,4 @@ use Rattle.serial.proofs.steps.write_all.Given as goal
 
 -- what is left to write, over the cells so far
 abbrev pub invariant-loop-write : goal.invariant-loop-write
-invariant-loop-write l = applied l.write-iterator.iter.rest.now l.cells ≡ applied l.writes l.initial.cells
+invariant-loop-write l = applied l.write-iterator.iter.rest.now l.cells.items ≡ applied l.writes l.initial.cells.items

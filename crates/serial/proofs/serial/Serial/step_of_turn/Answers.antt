@@ -1,12 +1,12 @@
-use Rattle.std.proofs.Common.{List, inl, inr, sym, ap, ◌∙◌, subst, arith}
-use Rattle.std.proofs.lemmas.Bool.{cond-true}
+use Rattle.std.proofs.Common.{inl, inr, sym, ap, ◌∙◌, subst, arith}
+use Rattle.std.proofs.lemmas.Option.{unwrap_or-slice_get}
 use Rattle.std.specs.Option.{unwrap_or}
 use Rattle.book.specs.Calls.{has_made}
-use Rattle.book.specs.Writes.{applied, Write, written}
+use Rattle.book.specs.Writes.{written}
 use Rattle.book.specs.WriteSets.{entries}
 use Rattle.serial.specs.declared.state.Stage.{Stage}
 use Rattle.serial.specs.States.{latest, stage_sight}
-use Rattle.serial.proofs.Stepping.{answered_sound, ended_sound, ends_now, made_sound, maker_writes, makes_now, number_left, put_room, puts_now, steps_to, tells_now}
+use Rattle.serial.proofs.Stepping.{answered_sound, ended_sound, ends_now, made_sound, maker_writes, makes_now, number_left, put_done, put_room, puts_now, steps_to, tells_now}
 use Rattle.serial.proofs.serial.Serial.step_of_turn.Goals as goal
 use Rattle.serial.specs.Laws.{Sound, sound_of}
 
@@ -18,7 +18,8 @@ invariant_of-self c =
 pub returns-in-Getting : goal.returns-in-Getting
 returns-in-Getting c =
     let e = c.args.self.now in
-    let answer = c.tell.ensures.answer ∙ ap (λ v. (_, unwrap_or (written c.in-Getting.cell (entries c.args.turn.writes)) v)) c.value_at-latest.ensures in
+    let value = c.unwrap_or-latest.ensures ∙ ap (λ o. unwrap_or o 0) c.value_at.ensures ∙ unwrap_or-slice_get (latest e.state) c.in-Getting.cell 0 in
+    let answer = c.tell.ensures.answer ∙ ap (λ v. (_, unwrap_or (written c.in-Getting.cell (entries c.args.turn.writes)) v)) value in
     steps_to _ _ _ _ _ _ _ answer c.tell.ensures.after (tells_now e.state (sound_of e) c.args.turn c.requires.turn c.in-Getting.cell c.in-Getting.is)
 
 pub invariant_of-self-in-Putting : goal.invariant_of-self-in-Putting
@@ -29,8 +30,8 @@ invariant_of-self-in-Putting c =
 pub returns-in-Putting : goal.returns-in-Putting
 returns-in-Putting c =
     let e = c.args.self.now in
-    let room = c.put.ensures.room ∙ put_room e.state (sound_of e) c.args.turn c.requires.turn c.in-Putting.write c.in-Putting.is in
-    steps_to _ _ _ _ _ _ _ c.put-in-Putting.ensures.answer c.put-in-Putting.ensures.after (puts_now e.state (sound_of e) c.args.turn c.requires.turn c.in-Putting.write c.put.new.self c.in-Putting.is (c.put.ensures.after ∙ cond-true c.put.result _ _ room))
+    let room = put_room e.state (sound_of e) c.args.turn c.requires.turn c.in-Putting.write c.in-Putting.is in
+    steps_to _ _ _ _ _ _ _ c.put-in-Putting.ensures.answer c.put-in-Putting.ensures.after (puts_now e.state (sound_of e) c.args.turn c.requires.turn c.in-Putting.write c.put.new.self c.in-Putting.is (put_done c.in-Putting.write (entries c.args.turn.writes) (entries c.put.new.self) c.put.result room c.put.ensures))
 
 pub commit-requires : goal.commit-requires
 commit-requires c =
@@ -40,14 +41,12 @@ commit-requires c =
 pub invariant_of-self-in-Writer : goal.invariant_of-self-in-Writer
 invariant_of-self-in-Writer c =
     let e = c.args.self.now in
-    let wrote = c.written_over-cells.ensures.front ∙ ap (λ (l : List Write). applied l (latest e.state)) c.as_slice.ensures in
-    subst Sound (sym c.commit.ensures.after) (made_sound e.state (sound_of e) c.args.turn c.requires.turn c.written_over-cells.result c.written_over-cells.ensures.long wrote c.in-Ending.is c.in-Writer.is)
+    subst Sound (sym c.commit.ensures.after) (made_sound e.state (sound_of e) c.args.turn c.requires.turn c.commit.new.self.cells c.commit.ensures.wrote c.in-Ending.is c.in-Writer.is)
 
 pub returns-in-Writer : goal.returns-in-Writer
 returns-in-Writer c =
     let e = c.args.self.now in
-    let wrote = c.written_over-cells.ensures.front ∙ ap (λ (l : List Write). applied l (latest e.state)) c.as_slice.ensures in
-    steps_to _ _ _ _ _ _ _ c.commit.ensures.answer c.commit.ensures.after (makes_now e.state (sound_of e) c.args.turn c.requires.turn c.written_over-cells.result c.written_over-cells.ensures.long wrote c.in-Ending.is c.in-Writer.is)
+    steps_to _ _ _ _ _ _ _ c.commit.ensures.answer c.commit.ensures.after (makes_now e.state (sound_of e) c.args.turn c.requires.turn c.commit.new.self.cells c.commit.ensures.wrote c.in-Ending.is c.in-Writer.is)
 
 pub invariant_of-self-in-Reader : goal.invariant_of-self-in-Reader
 invariant_of-self-in-Reader c =

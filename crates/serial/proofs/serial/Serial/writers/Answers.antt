@@ -8,4 +8,4 @@ pub returns : goal.returns
 returns c =
     let e = c.args.self.now in
     let counted : c.count.result ≡ count_by (λ (s : ℕ). will_make (part_at e.state s)) c.iter.result.rest.now = search rules in
-    counted ∙ ap (count_by (λ (s : ℕ). will_make (part_at e.state s))) c.iter.ensures.rest ∙ ap (count_by will_make) (sym (seats_are e.state e.seats e.within))
+    counted ∙ ap (count_by (λ (s : ℕ). will_make (part_at e.state s))) (c.iter.ensures.rest ∙ c.all.ensures) ∙ ap (count_by will_make) (sym (seats_are e.state e.seats e.within))
