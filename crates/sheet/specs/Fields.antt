@@ -1,5 +1,6 @@
 -- A line's fields: each goes up to the next space or line feed.
-use Rattle.std.specs.Prelude.{◌≡◌, ℕ, suc, ◌<◌, Bool, true, false, cond, not, ◌&&◌, ◌||◌, List, [], ◌∷◌, length, take, Option, MatchOption, ◌==◌, nat_le, slice_index}
+use Rattle.std.specs.Prelude.{◌≡◌, ℕ, ◌<◌, Bool, true, false, not, ◌&&◌, ◌||◌, List, [], ◌∷◌, length, take, Option, MatchOption, ◌==◌, nat_le, slice_index}
+use Rattle.std.specs.List.{position_or_len}
 use Rattle.sheet.specs.declared.field.Field.{Field}
 use Rattle.sheet.specs.declared.field.Field.TheVariants.{Letter, Number}
 
@@ -12,8 +13,7 @@ digit b = nat_le 48 b && nat_le b 57
 
 -- how many bytes stand before the first separator
 abbrev pub word_length : List ℕ → ℕ
-word_length [] = 0
-word_length (b ∷ bs) = cond (separator b) 0 (suc (word_length bs))
+word_length bs = position_or_len separator bs
 
 -- the bytes before the first separator
 abbrev pub word : List ℕ → List ℕ

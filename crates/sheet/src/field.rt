@@ -1,5 +1,5 @@
-ghost use Rattle.std.specs.Prelude.{◌≡◌, ◌+◌, ◌≤◌, length, drop};
-ghost use Rattle.sheet.specs.Fields.{word_length};
+ghost use Rattle.std.specs.Prelude.{◌≡◌, ◌≤◌, length};
+ghost use Rattle.sheet.specs.Fields.{separator, word_length};
 
 // One field of a line, as its bytes in the sheet. A single byte that is no digit is a letter; any other field has to be
 // a number.
@@ -9,15 +9,17 @@ pub enum Field<'a> {
     Number(&'a [u8]),
 }
 
-// Where the word that begins at `start` ends: at the next space or line feed, or at the end of the sheet.
-pub(crate) fn word_end(sheet: &[u8], start: usize) -> usize
-    requires { start ≤ length sheet.now }
-    ensures within { result ≤ length sheet.now }
-    ensures value { result ≡ start + word_length (drop start sheet.now) }
+// Whether the byte is a space or a line feed, which end a field.
+fn is_separator(b: u8) -> bool
+    ensures { result ≡ separator b }
 {
-    let mut end = start;
-    while end < sheet.len() && sheet[end] != b' ' && sheet[end] != b'\n' {
-        end += 1;
-    }
-    end
+    b == b' ' || b == b'\n'
+}
+
+// How many bytes the word at the front has: those before the next space or line feed, or all of them.
+pub(crate) fn word_len(bytes: &[u8]) -> usize
+    ensures within { result ≤ length bytes.now }
+    ensures value { result ≡ word_length bytes.now }
+{
+    bytes.iter().take_while(|b| !is_separator(**b)).count()
 }

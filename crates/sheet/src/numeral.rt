@@ -1,15 +1,8 @@
 ghost use Rattle.std.specs.Prelude.{◌≡◌};
-ghost use Rattle.sheet.specs.Fields.{digit};
 ghost use Rattle.sheet.specs.Numbers.{ReadsNumber, number_shape};
 
 // The longest number, 4294967295, has ten digits.
 const MAX_DIGITS: usize = 10;
-
-pub(crate) fn is_digit(b: u8) -> bool
-    ensures { result ≡ digit b }
-{
-    b >= b'0' && b <= b'9'
-}
 
 // Whether the bytes are neither too few nor too many, and do not begin with a zero that leads.
 fn has_number_shape(digits: &[u8]) -> bool
@@ -31,7 +24,7 @@ pub fn number(digits: &[u8]) -> Option<u32>
     }
     let mut value: u64 = 0;
     for b in digits {
-        if !is_digit(*b) {
+        if !b.is_ascii_digit() {
             return None;
         }
         value = value * 10 + u64::from(*b - b'0');

@@ -3,14 +3,19 @@ ghost use Rattle.sheet.specs.Fields.{ReadsField, starts_with, word_length};
 ghost use Rattle.sheet.specs.Places.{rest, Moved};
 
 use super::Cursor;
-use crate::field::{Field, word_end};
-use crate::numeral::is_digit;
+use crate::field::{Field, word_len};
 
 impl<'a> Cursor<'a> {
-    fn next_is(&self, byte: u8) -> bool
-        ensures { result ≡ starts_with byte (rest self.now) }
+    // Goes on past the byte, if it is next. The line stays: a caller that passes a line feed counts it.
+    fn pass(&mut self, byte: u8) -> bool
+        ensures found { result ≡ starts_with byte (rest self.old) }
+        ensures moved { Moved self.old self.new (if result then 1 else 0) 0 }
     {
-        self.place < self.sheet.len() && self.sheet[self.place] == byte
+        let found = self.sheet.get(self.place) == Some(&byte);
+        if found {
+            self.place += 1;
+        }
+        found
     }
 
     // Goes on past a space, if one is next.
@@ -18,11 +23,7 @@ impl<'a> Cursor<'a> {
         ensures found { result ≡ starts_with 32 (rest self.old) }
         ensures moved { Moved self.old self.new (if result then 1 else 0) 0 }
     {
-        let found = self.next_is(b' ');
-        if found {
-            self.place += 1;
-        }
-        found
+        self.pass(b' ')
     }
 
     // Goes on to the next line, if a line feed is next.
@@ -30,9 +31,8 @@ impl<'a> Cursor<'a> {
         ensures found { result ≡ starts_with 10 (rest self.old) }
         ensures moved { Moved self.old self.new (if result then 1 else 0) (if result then 1 else 0) }
     {
-        let found = self.next_is(b'\n');
+        let found = self.pass(b'\n');
         if found {
-            self.place += 1;
             self.line += 1;
         }
         found
@@ -43,13 +43,12 @@ impl<'a> Cursor<'a> {
         ensures found { ReadsField (rest self.old) result }
         ensures moved { Moved self.old self.new (word_length (rest self.old)) 0 }
     {
-        let start = self.place;
-        let end = word_end(self.sheet, start);
-        let word = &self.sheet[start..end];
-        self.place = end;
+        let left = &self.sheet[self.place..];
+        let word = &left[..word_len(left)];
+        self.place += word.len();
         match word {
             [] => None,
-            [b] if !is_digit(*b) => Some(Field::Letter(word)),
+            [b] if !b.is_ascii_digit() => Some(Field::Letter(word)),
             _ => Some(Field::Number(word)),
         }
     }

@@ -8,8 +8,8 @@ use Rattle.sheet.proofs.numeral.number.Goals as goal
 pub returns-then-not-has_number_shape : goal.returns-then-not-has_number_shape
 returns-then-not-has_number_shape c n fits e = both_ways _ (sym c.if-not-has_number_shape.ensures) (shape_spelled _ n (spelled_out _ n fits e))
 
-pub returns-then-not-is_digit : goal.returns-then-not-is_digit
-returns-then-not-is_digit c n fits e = both_ways _ (sym c.if-not-is_digit.ensures) (spelled_digit _ n _ (spelled_out _ n fits e) c.loop-b-test.true)
+pub returns-then-not-is_ascii_digit : goal.returns-then-not-is_ascii_digit
+returns-then-not-is_ascii_digit c n fits e = both_ways _ (sym c.if-not-is_ascii_digit.ensures.value) (spelled_digit _ n _ (spelled_out _ n fits e) c.loop-b-test.true)
 
 pub overflow_mul-value : goal.overflow_mul-value
 overflow_mul-value c =
@@ -19,12 +19,12 @@ overflow_mul-value c =
 pub overflow_add-value : goal.overflow_add-value
 overflow_add-value c =
     let short = summed_short _ _ _ (shape_parts _ (sym c.if-not-has_number_shape.ensures)).1 c.loop-b.invariant in
-    let range = digit_parts (get_or c.args.digits.now c.loop-b.b-index 0) (sym c.if-not-is_digit.ensures) in
+    let range = digit_parts (get_or c.args.digits.now c.loop-b.b-index 0) (sym c.if-not-is_ascii_digit.ensures.value) in
     record { fits = omega (arith, short) }
 
 pub loop-b-preserved : goal.loop-b-preserved
 loop-b-preserved c =
-    let range = digit_parts _ (sym c.if-not-is_digit.ensures) in
+    let range = digit_parts _ (sym c.if-not-is_ascii_digit.ensures.value) in
     rw c.from.ensures (summed_more _ _ _ c.loop-b-test.true range.0 range.1 c.loop-b.invariant)
 
 pub returns : goal.returns
