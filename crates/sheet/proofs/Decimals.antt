@@ -54,9 +54,6 @@ pub record Summed (bs : List ℕ) (i v : ℕ) : Type 0 where
   pub digits : AllDigits 10 (take i bs)
   pub means : v ≡ digits_value 10 (take i bs)
 
-pub summed_short : (bs : List ℕ) (i v : ℕ) → length bs ≤ 10 → Summed bs i v → v < 10 ^ 10
-summed_short bs i v few h = rw h.means (digits_value_short own (take i bs) 10 h.digits (simp length-take (omega arith)))
-
 pub summed_more : (bs : List ℕ) (i v : ℕ) → i < length bs → 48 ≤ get_or bs i 0 → get_or bs i 0 ≤ 57 → Summed bs i v → Summed bs (i + 1) (v * 10 + (get_or bs i 0 - 48))
 summed_more bs i v within low high h =
     let is = value_of_digit (get_or bs i 0) low high in
@@ -65,28 +62,33 @@ summed_more bs i v within low high h =
       means = ap (λ (w : ℕ). w * 10 + (get_or bs i 0 - 48)) h.means ∙ ap (λ (d : ℕ). digits_value 10 (take i bs) * 10 + d) (sym is) ∙ sym (digits_value_more 10 bs i within);
     }
 
--- the text of a number has the shape of one
-pub shape_spelled : (bs : List ℕ) (n : ℕ) → Spelled bs n → number_shape bs ≡ true
+shape_spelled : (bs : List ℕ) (n : ℕ) → Spelled bs n → number_shape bs ≡ true
 shape_spelled [] n s = absurd (omega (arith, s.some))
 shape_spelled (b ∷ []) n s = refl
 shape_spelled (b ∷ c ∷ bs) n s = and_from (not (eqb b 48)) (leb (length (b ∷ c ∷ bs)) 10) (not_from_false (eqb b 48) (ne_eqb b 48 (λ e. omega (arith, s.plain e)))) (le-leb _ 10 s.few)
 
+-- the text of a number has the shape of one
+pub decimal_shape : (n : ℕ) → Fits32 n → number_shape (decimal n) ≡ true
+decimal_shape n fits = shape_spelled (decimal n) n (spelled n fits)
+
+pub decimal_digit_at : (n i : ℕ) → Fits32 n → i < length (decimal n) → digit (get_or (decimal n) i 0) ≡ true
+decimal_digit_at n i fits within =
+    let range = digit_at (decimal n) i (spelled n fits).digits within in
+    and_from _ _ (le-leb 48 _ range.0) (le-leb _ 57 range.1)
+
 -- what the shape says
-pub shape_parts : (bs : List ℕ) → number_shape bs ≡ true → (0 < length bs) × (length bs ≤ 10) × (get_or bs 0 0 ≡ 48 → length bs ≡ 1)
+shape_parts : (bs : List ℕ) → number_shape bs ≡ true → (0 < length bs) × (length bs ≤ 10) × (get_or bs 0 0 ≡ 48 → length bs ≡ 1)
 shape_parts [] h = absurd (false≢true h)
 shape_parts (b ∷ []) h = (omega arith, omega arith, λ _. refl)
 shape_parts (b ∷ c ∷ bs) h =
     let parts = and_parts (not (eqb b 48)) (leb (length (b ∷ c ∷ bs)) 10) h in
     (omega arith, leb-true _ 10 parts.1, λ e. absurd (eqb-false b 48 (not-true _ parts.0) e))
 
-digit_true : (b : ℕ) → 48 ≤ b → b ≤ 57 → digit b ≡ true
-digit_true b low high = and_from _ _ (le-leb 48 b low) (le-leb b 57 high)
-
-pub digit_parts : (b : ℕ) → digit b ≡ true → (48 ≤ b) × (b ≤ 57)
-digit_parts b h = let parts = and_parts (leb 48 b) (leb b 57) h in (leb-true 48 b parts.0, leb-true b 57 parts.1)
-
-pub spelled_digit : (bs : List ℕ) (n i : ℕ) → Spelled bs n → i < length bs → digit (get_or bs i 0) ≡ true
-spelled_digit bs n i s within = let range = digit_at bs i s.digits within in digit_true _ range.0 range.1
+-- the digits of bytes of the right shape write a number that does not overflow
+pub shaped_short : (bs : List ℕ) (i v : ℕ) → Summed bs i v → number_shape bs ≡ true → v < 10 ^ 10
+shaped_short bs i v h shape =
+    let few = (shape_parts bs shape).1 in
+    rw h.means (digits_value_short own (take i bs) 10 h.digits (simp length-take (omega arith)))
 
 -- digits of the right shape write their value, and it is read where it has 32 bits
 pub reads_value : {E : Type 0} (bs : List ℕ) (v : ℕ) (r : Result ℕ E) → number_shape bs ≡ true → AllDigits 10 bs → v ≡ digits_value 10 bs → OkIff r (Fits32 v) v → ReadsNumber bs (result_ok r)
