@@ -1,6 +1,7 @@
 pub mod CallFronts
 pub mod CallLines
 pub mod Decimals
+pub mod LineErrors
 pub mod LineTexts
 pub mod Operands
 pub mod ReadLines

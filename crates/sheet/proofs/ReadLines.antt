@@ -1,11 +1,13 @@
 -- The numbers of a line are read one by one. What is read so far tells each text that could stand there.
-use Rattle.std.proofs.Common.{◌≡◌, ℕ, true, false, not, eqb, List, [], ◌∷◌, ◌++◌, length, get_or, drop, decimal, sym, refl, ap, ◌∙◌, subst, append_assoc, append-nil, arith}
+use Rattle.std.proofs.Common.{◌≡◌, ℕ, true, false, not, eqb, Bor, Option, Some, None, List, [], ◌∷◌, ◌++◌, length, take, get_or, drop, decimal, sym, refl, ap, ◌∙◌, subst, append_assoc, append-nil, arith}
 use Rattle.std.proofs.lemmas.Fmt.{decimal_injective}
 use Rattle.std.proofs.ByRecursion.{All-push}
 use Rattle.std.proofs.lemmas.List.{append_cancel_left, same_lists, places}
 use Rattle.std.proofs.lemmas.Bool.{true≢false, not_from_false, and_parts, eqb-true}
 use Rattle.std.specs.List.{AllByRecursion}
-use Rattle.sheet.specs.Fields.{digit, is_letter, starts_with, word}
+use Rattle.sheet.specs.declared.field.Field.{Field}
+use Rattle.sheet.specs.declared.field.Field.TheVariants.{Letter, Number}
+use Rattle.sheet.specs.Fields.{ReadsField, digit, is_letter, starts_with, word}
 use Rattle.sheet.specs.Lines.{FieldEnds, LineLetter, NoLine, NoOperand, NoOperands}
 use Rattle.sheet.specs.Numbers.{Fits32}
 use Rattle.sheet.specs.Texts.{spaced, operands_text, line_text}
@@ -84,6 +86,12 @@ pub no_letter : (bs : List ℕ) → is_letter (word bs) ≡ false → NoLine bs
 no_letter bs other letter numbers after is fits e =
     let w : word bs ≡ letter ∷ [] = ap word e ∙ letter_word letter numbers after is in
     true≢false (sym (not_from_false (digit letter) is.1) ∙ sym (ap is_letter w) ∙ other)
+
+-- the field at the front of a line is a letter
+pub no_letter_field : (bs : List ℕ) (r : Option Field) → ReadsField bs r → ((b : Bor (List ℕ)) → r ≡ Some (Letter b) → ⊥) → NoLine bs
+no_letter_field bs None none other = no_letter bs (ap (λ (n : ℕ). is_letter (take n bs)) none)
+no_letter_field bs (Some (Letter b)) is other = absurd (other b refl)
+no_letter_field bs (Some (Number b)) is other = no_letter bs is.1.1
 
 pub no_operands : (bs left : List ℕ) (letter : ℕ) → bs ≡ letter ∷ left → NoOperands left → NoLine bs
 no_operands bs left letter split none letter' numbers after is fits e = none numbers after fits (same_tail letter letter' _ _ (sym split ∙ e))

@@ -1,6 +1,7 @@
 pub mod CallLists
 pub mod Fields
 pub mod Laws
+pub mod LineErrors
 pub mod Limits
 pub mod Lines
 pub mod Numbers

@@ -1,6 +1,6 @@
 -- The text of a line: a letter, then numbers, each after one space, then a line feed.
 -- The text of a sheet: its heading's line, then one line a call.
-use Rattle.std.specs.Prelude.{ℕ, List, [], ◌∷◌, ◌++◌, decimal}
+use Rattle.std.specs.Prelude.{ℕ, List, [], ◌∷◌, ◌++◌, codes, decimal}
 use Rattle.std.specs.List.{flat_map, AllByRecursion}
 use Rattle.book.specs.declared.call.Call.{Call}
 use Rattle.book.specs.declared.call.Call.TheVariants.{Open, Get, Put, End, Step}
@@ -25,6 +25,11 @@ line_text letter numbers = letter ∷ operands_text numbers
 abbrev pub engine_letter : EngineChoice → ℕ
 engine_letter Pessimistic = 109
 engine_letter Serial = 116
+
+-- the word that names an engine
+abbrev pub engine_name : EngineChoice → List ℕ
+engine_name Pessimistic = codes "pessimistic"
+engine_name Serial = codes "serial"
 
 abbrev pub heading_text : EngineChoice → ℕ → List ℕ → List ℕ
 heading_text engine version cells = line_text (engine_letter engine) (version ∷ cells)

@@ -1,11 +1,11 @@
-ghost use Rattle.std.specs.Prelude.{◌≡◌, IfOk};
+ghost use Rattle.std.specs.Prelude.{◌≡◌};
+ghost use Rattle.sheet.specs.LineErrors.{OnReading};
 ghost use Rattle.sheet.specs.Readings.{ReadsCall, ReadsCallLine};
 ghost use Rattle.sheet.specs.Texts.{call_letter};
 
-use crate::cursor::Cursor;
-use crate::line::read_line;
+use crate::error::LineError;
+use crate::line::LineReader;
 use book::{Call, Kind};
-use std::alloc::AllocError;
 
 // The letter that the call's line begins with.
 pub fn call_letter(call: &Call) -> char
@@ -55,15 +55,12 @@ fn call_of(letter: char, numbers: &[u32]) -> Option<Call>
     }
 }
 
-// The call on the next line, or none where the line is not one. `numbers` is only room to read in.
-pub(crate) fn read_call(
-    cursor: &mut Cursor,
-    numbers: &mut Vec<u32>,
-) -> Result<Option<Call>, AllocError>
-    ensures { IfOk result (λ o. ReadsCallLine cursor.old cursor.new o) }
-{
-    let Some(letter) = read_line(cursor, numbers)? else {
-        return Ok(None);
-    };
-    Ok(call_of(letter, numbers.as_slice()))
+impl<'a> LineReader<'a> {
+    // Reads the call on the next line.
+    pub(crate) fn read_call(&mut self) -> Result<Call, LineError>
+        ensures { OnReading result (λ o. ReadsCallLine self.old.cursor self.new.cursor o) }
+    {
+        let letter = self.read_line()?;
+        call_of(letter, self.numbers.as_slice()).ok_or(LineError::Unreadable)
+    }
 }

@@ -1,8 +1,9 @@
 // The first line of a sheet: which engine plays it, and what the engine starts with.
+mod engine;
 mod reading;
 
 use book::Value;
-pub(crate) use reading::read_heading;
+pub use engine::UnknownEngine;
 
 #[derive(Clone, Copy, Debug, PartialEq, Eq)]
 pub enum EngineChoice {

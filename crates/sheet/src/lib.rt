@@ -14,6 +14,6 @@ pub use call::call_letter;
 pub use cursor::Cursor;
 pub use error::ReadError;
 pub use field::Field;
-pub use heading::{EngineChoice, Heading};
+pub use heading::{EngineChoice, Heading, UnknownEngine};
 pub use numeral::number;
 pub use reading::{Sheet, read};

@@ -1,11 +1,13 @@
-ghost use Rattle.std.specs.Prelude.{IfOk};
+ghost use Rattle.std.specs.Prelude.{is_some};
+ghost use Rattle.sheet.specs.LineErrors.{OnReading};
 ghost use Rattle.sheet.specs.Lines.{FieldEnds, ReadsLine, ReadsOperand, ReadsOperands};
-ghost use Rattle.sheet.specs.Places.{rest};
+ghost use Rattle.sheet.specs.Places.{AtStart, rest};
 
 use crate::cursor::Cursor;
+use crate::error::LineError;
 use crate::field::Field;
 use crate::numeral::number;
-use std::alloc::AllocError;
+use std::alloc::{AllocError, Global};
 
 // The number that follows one space, or none where something else does.
 fn operand(cursor: &mut Cursor) -> Option<u32>
@@ -20,38 +22,45 @@ fn operand(cursor: &mut Cursor) -> Option<u32>
     }
 }
 
-// The numbers that follow, each after one space, up to the line feed, into `numbers`; false where something else does.
-fn operands(cursor: &mut Cursor, numbers: &mut Vec<u32>) -> Result<bool, AllocError>
-    requires { FieldEnds (rest cursor.old) }
-    ensures { IfOk result (λ found. ReadsOperands cursor.old cursor.new found numbers.new.items) }
-{
-    numbers.clear();
-    while !cursor.line_feed() {
-        let Some(n) = operand(cursor) else {
-            return Ok(false);
-        };
-        numbers.push(n)?;
-    }
-    Ok(true)
+// Reads a sheet line by line, and holds the numbers of the line that was read last.
+#[derive(Drop)]
+pub(crate) struct LineReader<'a> {
+    pub(crate) cursor: Cursor<'a>,
+    pub(crate) numbers: Vec<u32>,
 }
 
-// The letter of the next line, with the line's numbers in `numbers`, or none where the line is unreadable.
-pub(crate) fn read_line(
-    cursor: &mut Cursor,
-    numbers: &mut Vec<u32>,
-) -> Result<Option<char>, AllocError>
-    ensures { IfOk result (λ o. ReadsLine cursor.old cursor.new o numbers.new.items) }
-{
-    let Some(field) = cursor.field() else {
-        return Ok(None);
-    };
-    let Field::Letter(letter) = field else {
-        return Ok(None);
-    };
-    let letter = letter[0] as char;
-    if operands(cursor, numbers)? {
-        Ok(Some(letter))
-    } else {
-        Ok(None)
+impl<'a> LineReader<'a> {
+    pub(crate) fn new(heap: Global, sheet: &'a [u8]) -> LineReader<'a>
+        ensures { AtStart sheet.now result.cursor }
+    {
+        LineReader {
+            cursor: Cursor::new(sheet),
+            numbers: Vec::new(heap),
+        }
+    }
+
+    // Reads the numbers that follow, each after one space, up to the line feed.
+    fn operands(&mut self) -> Result<(), LineError>
+        requires { FieldEnds (rest self.old.cursor) }
+        ensures { OnReading result (λ o. ReadsOperands self.old.cursor self.new.cursor (is_some o) self.new.numbers.items) }
+    {
+        self.numbers.clear();
+        while !self.cursor.line_feed() {
+            let n = operand(&mut self.cursor).ok_or(LineError::Unreadable)?;
+            self.numbers.push(n).map_err(AllocError::from)?;
+        }
+        Ok(())
+    }
+
+    // Reads the next line, and answers its letter.
+    pub(crate) fn read_line(&mut self) -> Result<char, LineError>
+        ensures { OnReading result (λ o. ReadsLine self.old.cursor self.new.cursor o self.new.numbers.items) }
+    {
+        let Some(Field::Letter(letter)) = self.cursor.field() else {
+            return Err(LineError::Unreadable);
+        };
+        let letter = char::from(letter[0]);
+        self.operands()?;
+        Ok(letter)
     }
 }

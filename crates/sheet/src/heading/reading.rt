@@ -1,42 +1,36 @@
-ghost use Rattle.std.specs.Prelude.{IfOk};
-ghost use Rattle.sheet.specs.Readings.{ReadsEngine, ReadsHeadingLine};
+ghost use Rattle.std.specs.Prelude.{◌≡◌};
+ghost use Rattle.sheet.specs.declared.error.LineError.TheVariants.{Unreadable};
+ghost use Rattle.sheet.specs.LineErrors.{OnReading};
+ghost use Rattle.sheet.specs.Readings.{ReadsHeadingLine};
 
-use super::{EngineChoice, Heading};
-use crate::cursor::Cursor;
-use crate::line::read_line;
-use std::alloc::{AllocError, Global};
+use super::{EngineChoice, Heading, UnknownEngine};
+use crate::error::LineError;
+use crate::line::LineReader;
+use std::alloc::Global;
 
-fn engine_of(letter: char) -> Option<EngineChoice>
-    ensures { ReadsEngine letter result }
-{
-    match letter {
-        'm' => Some(EngineChoice::Pessimistic),
-        't' => Some(EngineChoice::Serial),
-        _ => None,
+impl From<UnknownEngine> for LineError {
+    ghost from_gives = { λ _ e. e ≡ Unreadable };
+
+    fn from(_e: UnknownEngine) -> LineError {
+        LineError::Unreadable
     }
 }
 
-// The heading on the next line, or none where the line is not one. `numbers` is only room to read in.
-pub(crate) fn read_heading(
-    heap: Global,
-    cursor: &mut Cursor,
-    numbers: &mut Vec<u32>,
-) -> Result<Option<Heading>, AllocError>
-    ensures { IfOk result (λ o. ReadsHeadingLine cursor.old cursor.new o) }
-{
-    let Some(letter) = read_line(cursor, numbers)? else {
-        return Ok(None);
-    };
-    let Some(engine) = engine_of(letter) else {
-        return Ok(None);
-    };
-    let [version, cells @ ..] = numbers.as_slice() else {
-        return Ok(None);
-    };
-    let cells = Vec::from_slice(heap, cells)?;
-    Ok(Some(Heading {
-        engine,
-        version: *version,
-        cells,
-    }))
+impl<'a> LineReader<'a> {
+    // Reads the heading on the next line.
+    pub(crate) fn read_heading(&mut self, heap: Global) -> Result<Heading, LineError>
+        ensures { OnReading result (λ o. ReadsHeadingLine self.old.cursor self.new.cursor o) }
+    {
+        let letter = self.read_line()?;
+        let engine = EngineChoice::try_from(letter)?;
+        let [version, cells @ ..] = self.numbers.as_slice() else {
+            return Err(LineError::Unreadable);
+        };
+        let cells = Vec::from_slice(heap, cells)?;
+        Ok(Heading {
+            engine,
+            version: *version,
+            cells,
+        })
+    }
 }

@@ -6,12 +6,10 @@ ghost use Rattle.sheet.specs.Outcomes.{Fails, Reads, content, readable};
 ghost use Rattle.sheet.specs.Places.{rest};
 
 use super::Sheet;
-use crate::call::read_call;
-use crate::cursor::Cursor;
 use crate::error::ReadError;
-use crate::heading::read_heading;
+use crate::line::LineReader;
 use book::{Call, Refusal};
-use std::alloc::Global;
+use std::alloc::{AllocError, Global};
 
 const MAX_BYTES: usize = 16_384;
 
@@ -37,33 +35,26 @@ pub fn read(heap: Global, bytes: &[u8]) -> Result<Sheet, ReadError>
     if too_long(bytes) {
         return Err(ReadError::Declined(Refusal::SheetTooLong));
     }
-    let mut cursor = Cursor::new(bytes);
-    let mut numbers = Vec::new(heap);
-    let Some(heading) = read_heading(heap, &mut cursor, &mut numbers)? else {
-        return Err(ReadError::Declined(Refusal::UnreadableLine { line: 1 }));
-    };
-    let calls = read_calls(heap, &mut cursor, &mut numbers)?;
+    let mut lines = LineReader::new(heap, bytes);
+    let heading = lines.read_heading(heap).map_err(|e| e.on_line(1))?;
+    let calls = lines.read_calls(heap)?;
     Ok(Sheet { heading, calls })
 }
 
-// Reads the calls on the lines that are left, one a line.
-fn read_calls(
-    heap: Global,
-    cursor: &mut Cursor,
-    numbers: &mut Vec<u32>,
-) -> Result<Vec<Call>, ReadError>
-    ensures { MatchResult result (λ v. AllCalls (rest cursor.old) v.items) (λ e. StopsCalls (rest cursor.old) cursor.old.line e) }
-{
-    let mut calls = Vec::new(heap);
-    while !cursor.at_end() {
-        if is_full(&calls) {
-            return Err(ReadError::Declined(Refusal::SheetTooLong));
+impl<'a> LineReader<'a> {
+    // Reads the calls on the lines that are left, one a line.
+    fn read_calls(&mut self, heap: Global) -> Result<Vec<Call>, ReadError>
+        ensures { MatchResult result (λ v. AllCalls (rest self.old.cursor) v.items) (λ e. StopsCalls (rest self.old.cursor) self.old.cursor.line e) }
+    {
+        let mut calls = Vec::new(heap);
+        while !self.cursor.at_end() {
+            if is_full(&calls) {
+                return Err(ReadError::Declined(Refusal::SheetTooLong));
+            }
+            let line = self.cursor.line();
+            let call = self.read_call().map_err(|e| e.on_line(line))?;
+            calls.push(call).map_err(AllocError::from)?;
         }
-        let line = cursor.line();
-        let Some(call) = read_call(cursor, numbers)? else {
-            return Err(ReadError::Declined(Refusal::UnreadableLine { line }));
-        };
-        calls.push(call)?;
+        Ok(calls)
     }
-    Ok(calls)
 }
