@@ -1,5 +1,4 @@
 pub mod CallFronts
-pub mod CallLines
 pub mod Decimals
 pub mod LineErrors
 pub mod LineTexts

@@ -55,7 +55,7 @@ fn call_of(letter: char, numbers: &[u32]) -> Option<Call>
     }
 }
 
-impl<'a> LineReader<'a> {
+impl LineReader<'_> {
     // Reads the call on the next line.
     pub(crate) fn read_call(&mut self) -> Result<Call, LineError>
         ensures { OnReading result (λ o. ReadsCallLine self.old.cursor self.new.cursor o) }

@@ -1,5 +1,4 @@
 ghost use Rattle.std.specs.Prelude.{◌≡◌};
-ghost use Rattle.sheet.specs.declared.error.LineError.TheVariants.{Unreadable};
 ghost use Rattle.sheet.specs.declared.error.LineError.{LineError};
 ghost use Rattle.sheet.specs.declared.error.ReadError.{ReadError};
 ghost use Rattle.sheet.specs.LineErrors.{error_at};

@@ -16,7 +16,7 @@ impl From<UnknownEngine> for LineError {
     }
 }
 
-impl<'a> LineReader<'a> {
+impl LineReader<'_> {
     // Reads the heading on the next line.
     pub(crate) fn read_heading(&mut self, heap: Global) -> Result<Heading, LineError>
         ensures { OnReading result (λ o. ReadsHeadingLine self.old.cursor self.new.cursor o) }

@@ -1,4 +1,4 @@
-ghost use Rattle.std.specs.Prelude.{◌≡◌, length, vec_len, MatchResult, ◌==◌, nat_lt};
+ghost use Rattle.std.specs.Prelude.{◌≡◌, length, MatchResult, ◌==◌, nat_lt};
 ghost use Rattle.sheet.specs.CallLists.{AllCalls, StopsCalls};
 ghost use Rattle.sheet.specs.Laws.{ReadingLaws};
 ghost use Rattle.sheet.specs.Limits.{max_bytes, max_calls};
@@ -21,8 +21,8 @@ fn too_long(bytes: &[u8]) -> bool
     bytes.len() > MAX_BYTES
 }
 
-fn is_full(calls: &Vec<Call>) -> bool
-    ensures { result ≡ (vec_len calls.now == max_calls) }
+fn is_full(calls: &[Call]) -> bool
+    ensures { result ≡ (length calls.now == max_calls) }
 {
     calls.len() == MAX_CALLS
 }
@@ -41,7 +41,7 @@ pub fn read(heap: Global, bytes: &[u8]) -> Result<Sheet, ReadError>
     Ok(Sheet { heading, calls })
 }
 
-impl<'a> LineReader<'a> {
+impl LineReader<'_> {
     // Reads the calls on the lines that are left, one a line.
     fn read_calls(&mut self, heap: Global) -> Result<Vec<Call>, ReadError>
         ensures { MatchResult result (λ v. AllCalls (rest self.old.cursor) v.items) (λ e. StopsCalls (rest self.old.cursor) self.old.cursor.line e) }
