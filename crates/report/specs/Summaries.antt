@@ -1,14 +1,8 @@
 -- The summary of a readable sheet, row by row.
 use Rattle.std.specs.Prelude.{ℕ, List, [], ◌∷◌, ◌++◌, length, codes, decimal, count_by, nat_eq}
 use Rattle.book.specs.declared.call.Call.{Call}
-use Rattle.sheet.specs.declared.heading.EngineChoice.{EngineChoice}
-use Rattle.sheet.specs.declared.heading.EngineChoice.TheVariants.{Pessimistic, Serial}
 use Rattle.sheet.specs.Outcomes.{Content}
-use Rattle.sheet.specs.Texts.{call_letter}
-
-abbrev pub engine_name : EngineChoice → List ℕ
-engine_name Pessimistic = codes "pessimistic"
-engine_name Serial = codes "serial"
+use Rattle.sheet.specs.Texts.{call_letter, engine_name}
 
 -- how many calls have this letter
 abbrev pub calls_with : ℕ → List Call → ℕ

@@ -1,31 +1,19 @@
 ghost use Rattle.std.specs.Prelude.{◌≡◌, ◌++◌, IfOk, string_bytes, OnOk};
 ghost use Rattle.sheet.specs.Outcomes.{content};
-ghost use Rattle.report.specs.Summaries.{calls_with, engine_name, row_text, summary_text};
+ghost use Rattle.report.specs.Summaries.{calls_with, row_text, summary_text};
 
 use book::Call;
-use sheet::{EngineChoice, Sheet, call_letter};
+use sheet::{Sheet, call_letter};
 use std::alloc::{AllocError, Global};
-
-fn engine_name(engine: EngineChoice) -> &'static str
-    ensures { result.now ≡ engine_name engine }
-{
-    match engine {
-        EngineChoice::Pessimistic => "pessimistic",
-        EngineChoice::Serial => "serial",
-    }
-}
 
 // How many of the calls have this letter.
 fn count(calls: &[Call], letter: char) -> usize
     ensures { result ≡ calls_with letter calls.now }
 {
-    let mut n = 0;
-    for call in calls {
-        if call_letter(call) == letter {
-            n += 1;
-        }
-    }
-    n
+    calls
+        .iter()
+        .filter(|call| call_letter(call) == letter)
+        .count()
 }
 
 // Adds one row, a label and a number, to the text.
@@ -40,9 +28,9 @@ fn push_row(text: &mut String, heap: Global, label: &str, n: usize) -> Result<()
 pub(crate) fn summary(heap: Global, sheet: &Sheet) -> Result<String, AllocError>
     ensures { IfOk result (λ t. string_bytes t ≡ summary_text (content sheet.now)) }
 {
-    let name = engine_name(sheet.heading.engine);
+    let engine = sheet.heading.engine;
     let calls = sheet.calls.as_slice();
-    let mut text = format!(in heap; "engine {name}\n")?;
+    let mut text = format!(in heap; "engine {engine}\n")?;
     push_row(&mut text, heap, "version", sheet.heading.version as usize)?;
     push_row(&mut text, heap, "cells", sheet.heading.cells.len())?;
     push_row(&mut text, heap, "calls", calls.len())?;

@@ -1,15 +1,9 @@
 use Rattle.std.proofs.Common.{◌≡◌, ℕ, List, [], ◌∷◌, ◌++◌, string_bytes, codes, decimal, sym, ap, ◌∙◌}
 use Rattle.std.proofs.lemmas.Result.{IfOk-weaker}
 use Rattle.book.specs.Refusals.{refusal_number}
-use Rattle.report.specs.Answers.{line_of, refusal_text}
+use Rattle.report.specs.Answers.{refusal_text}
 use Rattle.report.proofs.Lines.{names_no_line}
 use Rattle.report.proofs.answer.declined.Goals as goal
-
-pub returns-in-UnreadableLine : goal.returns-in-UnreadableLine
-returns-in-UnreadableLine c =
-    let number = ap (λ (n : ℕ). codes "no " ++ (decimal n ++ (32 ∷ (decimal c.in-UnreadableLine.line ++ (10 ∷ []))))) c.number-number.ensures in
-    let line = ap (λ r. codes "no " ++ (decimal (refusal_number c.args.refusal) ++ (line_of r ++ (10 ∷ [])))) (sym c.in-UnreadableLine.is) in
-    IfOk-weaker c.format.result _ (λ t. string_bytes t ≡ refusal_text c.args.refusal) (λ t e. e ∙ number ∙ line) c.format.ensures.ok
 
 pub returns-in_default : goal.returns-in_default
 returns-in_default c =

@@ -1,4 +1,4 @@
-use Rattle.std.proofs.Common.{ℕ, List, [], ◌∷◌, ◌++◌, length, codes, refl, ap, ◌∙◌}
+use Rattle.std.proofs.Common.{length, codes, refl, ap, ◌∙◌}
 use Rattle.report.specs.Summaries.{calls_with}
 use Rattle.report.proofs.Rows.{row_more}
 use Rattle.report.proofs.summary.summary.Goals as goal
@@ -6,8 +6,7 @@ use Rattle.report.proofs.summary.summary.Goals as goal
 pub returns : goal.returns
 returns c =
     let same = c.as_slice-calls.ensures.value in
-    let t0 = c.in_ok-text.ensures.ok ∙ ap (λ (l : List ℕ). codes "engine " ++ (l ++ (10 ∷ []))) c.engine_name-name.ensures in
-    let t1 = row_more (codes "version") c.in_ok-push_row.ensures t0 refl in
+    let t1 = row_more (codes "version") c.in_ok-push_row.ensures c.in_ok-text.ensures.ok refl in
     let t2 = row_more (codes "cells") c.in_ok-push_row-2.ensures t1 (c.len.ensures ∙ c.args.sheet.now.heading.cells.ok.0) in
     let t3 = row_more (codes "calls") c.in_ok-push_row-3.ensures t2 (ap length same) in
     let t4 = row_more (codes "openings of readers") c.in_ok-push_row-4.ensures t3 (c.count.ensures ∙ ap (calls_with 114) same) in
