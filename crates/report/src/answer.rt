@@ -24,9 +24,7 @@ pub fn of_sheet(heap: Global, bytes: &[u8]) -> Result<String, AllocError>
 {
     match sheet::read(heap, bytes) {
         Ok(sheet) => summary(heap, &sheet),
-        Err(error) => match error {
-            ReadError::Declined(refusal) => declined(heap, refusal),
-            ReadError::NoMemory => Err(AllocError),
-        },
+        Err(ReadError::Declined(refusal)) => declined(heap, refusal),
+        Err(ReadError::NoMemory) => Err(AllocError),
     }
 }
