@@ -1,5 +1,5 @@
 -- The text of a line tells its letter, its numbers and where it ends; so a line writes one call, or one heading, or none.
-use Rattle.std.proofs.Common.{◌≡◌, ℕ, List, [], ◌∷◌, ◌++◌, get_or, Some, None, decimal, Option, sym, refl, ap, ◌∙◌, subst, append_assoc, arith}
+use Rattle.std.proofs.Common.{◌≡◌, ℕ, List, [], ◌∷◌, ◌++◌, get_or, drop, Some, None, decimal, Option, sym, refl, ap, ◌∙◌, subst, append_assoc}
 use Rattle.std.specs.List.{AllByRecursion}
 use Rattle.book.specs.declared.call.Call.{Call}
 use Rattle.book.specs.declared.call.Call.TheVariants.{Open, Get, Put, End, Step}
@@ -11,22 +11,22 @@ use Rattle.sheet.specs.Lines.{LineLetter, NoLine}
 use Rattle.sheet.specs.Numbers.{Fits32}
 use Rattle.sheet.specs.Places.{rest, Passed}
 use Rattle.sheet.specs.Readings.{NoCall, NoHeading, ReadsCall, ReadsCallLine}
-use Rattle.sheet.specs.Texts.{call_letter, call_numbers, engine_letter, heading_text, line_text, spaced}
-use Rattle.sheet.proofs.ReadLines.{no_such_head, same_tail, same_number, spaced_ends}
+use Rattle.sheet.specs.Texts.{call_letter, call_numbers, engine_letter, line_text, spaced}
+use Rattle.sheet.proofs.ReadLines.{same_number, spaced_ends}
 
 numbers_tell : (ns ms t u : List ℕ) → AllByRecursion Fits32 ns → AllByRecursion Fits32 ms → spaced ns ++ (10 ∷ t) ≡ spaced ms ++ (10 ∷ u) → (ns ≡ ms) × (t ≡ u)
-numbers_tell [] [] t u n-fits m-fits e = (refl, same_tail 10 10 t u e)
-numbers_tell [] (m ∷ ms) t u n-fits m-fits e = absurd (no_such_head 10 32 _ _ (λ h. omega arith) e)
-numbers_tell (n ∷ ns) [] t u n-fits m-fits e = absurd (no_such_head 32 10 _ _ (λ h. omega arith) e)
+numbers_tell [] [] t u n-fits m-fits e = (refl, cc)
+numbers_tell [] (m ∷ ms) t u n-fits m-fits e = absurd (cc)
+numbers_tell (n ∷ ns) [] t u n-fits m-fits e = absurd (cc)
 numbers_tell (n ∷ ns) (m ∷ ms) t u n-fits m-fits e =
-    let tails = sym (append_assoc (decimal n) (spaced ns) (10 ∷ t)) ∙ same_tail 32 32 _ _ e ∙ append_assoc (decimal m) (spaced ms) (10 ∷ u) in
+    let tails = sym (append_assoc (decimal n) (spaced ns) (10 ∷ t)) ∙ ap (drop 1) e ∙ append_assoc (decimal m) (spaced ms) (10 ∷ u) in
     let both = same_number n m _ _ n-fits.0 m-fits.0 (spaced_ends ns (10 ∷ t) refl) (spaced_ends ms (10 ∷ u) refl) tails in
     let on = numbers_tell ns ms t u n-fits.1 m-fits.1 both.1 in
     ((λ i. both.0 i ∷ on.0 i), on.1)
 
 pub line_tells : (c d : ℕ) (ns ms t u : List ℕ) → AllByRecursion Fits32 ns → AllByRecursion Fits32 ms → line_text c ns ++ t ≡ line_text d ms ++ u → (c ≡ d) × (ns ≡ ms) × (t ≡ u)
 line_tells c d ns ms t u n-fits m-fits e =
-    let tails = sym (append_assoc (spaced ns) (10 ∷ []) t) ∙ same_tail c d _ _ e ∙ append_assoc (spaced ms) (10 ∷ []) u in
+    let tails = sym (append_assoc (spaced ns) (10 ∷ []) t) ∙ ap (drop 1) e ∙ append_assoc (spaced ms) (10 ∷ []) u in
     let on = numbers_tell ns ms t u n-fits m-fits tails in
     (ap (λ (l : List ℕ). get_or l 0 0) e, on.0, on.1)
 
@@ -56,15 +56,3 @@ module _ (before after : Cursor) (letter : ℕ) (numbers : List ℕ) (fits : All
   pub reads_call_line : (r : Option Call) → ReadsCall letter numbers r → ReadsCallLine before after r
   reads_call_line None none = λ call u Call-fits e. let this = this_line (call_letter call) (call_numbers call) u Call-fits e in none call this.0 this.1
   reads_call_line (Some call) is = (subst (AllByRecursion Fits32) (sym is.1) fits, record { split = line.split ∙ (λ i. line_text (sym is.0 i) (sym is.1 i) ++ rest after); line = line.line })
-
-  pub no_engine : ((engine : EngineChoice) → engine_letter engine ≡ letter → ⊥) → NoHeading (rest before)
-  no_engine none engine version cells u h_fits e = none engine (this_line (engine_letter engine) (version ∷ cells) u h_fits e).0
-
-  pub no_version : numbers ≡ [] → NoHeading (rest before)
-  no_version empty engine version cells u h_fits e =
-      let same : version ∷ cells ≡ [] = (this_line (engine_letter engine) (version ∷ cells) u h_fits e).1 ∙ empty in
-      let z : ◌≡◌ {A = ℕ} 0 1 = cc in
-      omega arith
-
-  pub reads_heading : (engine : EngineChoice) (version : ℕ) (cells : List ℕ) → engine_letter engine ≡ letter → version ∷ cells ≡ numbers → AllByRecursion Fits32 (version ∷ cells) × Passed before after (heading_text engine version cells) 1
-  reads_heading engine version cells e-letter e-numbers = (subst (AllByRecursion Fits32) (sym e-numbers) fits, record { split = line.split ∙ (λ i. line_text (sym e-letter i) (sym e-numbers i) ++ rest after); line = line.line })

@@ -1,9 +1,9 @@
 -- The numbers of a line are read one by one. What is read so far tells each text that could stand there.
-use Rattle.std.proofs.Common.{◌≡◌, ℕ, true, false, not, eqb, Bor, Option, Some, None, List, [], ◌∷◌, ◌++◌, length, take, get_or, drop, decimal, sym, refl, ap, ◌∙◌, subst, append_assoc, append-nil, arith}
+use Rattle.std.proofs.Common.{◌≡◌, ℕ, true, false, Bor, Option, Some, None, List, [], ◌∷◌, ◌++◌, take, drop, decimal, sym, refl, ap, ◌∙◌, subst, append_assoc, append-nil, arith}
 use Rattle.std.proofs.lemmas.Fmt.{decimal_injective}
 use Rattle.std.proofs.ByRecursion.{All-push}
-use Rattle.std.proofs.lemmas.List.{append_cancel_left, same_lists, places}
-use Rattle.std.proofs.lemmas.Bool.{true≢false, not_from_false, and_parts, eqb-true}
+use Rattle.std.proofs.lemmas.List.{append_cancel_left}
+use Rattle.std.proofs.lemmas.Bool.{true≢false, not_from_false}
 use Rattle.std.specs.List.{AllByRecursion}
 use Rattle.sheet.specs.declared.field.Field.{Field}
 use Rattle.sheet.specs.declared.field.Field.TheVariants.{Letter, Number}
@@ -31,19 +31,13 @@ pub record Next (more left after : List ℕ) : Type 0 where
   pub fits : Fits32 number
   pub split : left ≡ 32 ∷ (decimal number ++ (spaced others ++ (10 ∷ after)))
 
-pub no_such_head : (a b : ℕ) (x y : List ℕ) → (a ≡ b → ⊥) → a ∷ x ≡ b ∷ y → ⊥
-no_such_head a b x y apart e = apart (ap (λ (l : List ℕ). get_or l 0 0) e)
-
-pub same_tail : (a b : ℕ) (x y : List ℕ) → a ∷ x ≡ b ∷ y → x ≡ y
-same_tail a b x y e = ap (drop 1) e
-
 -- where `seen` is read, `left` is to be read, and no line feed is next, a text that stands there has a number next
 pub next_number : (seen more left after : List ℕ) → AllByRecursion Fits32 seen → AllByRecursion Fits32 more → FieldEnds left → starts_with 10 left ≡ false → spaced more ++ (10 ∷ after) ≡ spaced seen ++ left → Next more left after
 next_number [] [] left after s m ends apart e = absurd (true≢false (ap (starts_with 10) e ∙ apart))
 next_number [] (n ∷ more) left after s m ends apart e = record { number = n; others = more; fits = m.0; split = sym e ∙ ap (λ (l : List ℕ). 32 ∷ l) (append_assoc (decimal n) (spaced more) (10 ∷ after)) }
-next_number (k ∷ seen) [] left after s m ends apart e = absurd (no_such_head 10 32 _ _ (λ h. omega arith) e)
+next_number (k ∷ seen) [] left after s m ends apart e = absurd (cc)
 next_number (k ∷ seen) (n ∷ more) left after s m ends apart e =
-    let tails = sym (append_assoc (decimal n) (spaced more) (10 ∷ after)) ∙ same_tail 32 32 _ _ e ∙ append_assoc (decimal k) (spaced seen) left in
+    let tails = sym (append_assoc (decimal n) (spaced more) (10 ∷ after)) ∙ ap (drop 1) e ∙ append_assoc (decimal k) (spaced seen) left in
     let both = same_number n k _ _ m.0 s.0 (spaced_ends more (10 ∷ after) refl) (spaced_ends seen left ends) tails in
     let on = next_number seen more left after s.1 m.1 ends apart both.1 in
     record { number = on.number; others = on.others; fits = on.fits; split = on.split }
@@ -92,12 +86,3 @@ pub no_letter_field : (bs : List ℕ) (r : Option Field) → ReadsField bs r →
 no_letter_field bs None none other = no_letter bs (ap (λ (n : ℕ). is_letter (take n bs)) none)
 no_letter_field bs (Some (Letter b)) is other = absurd (other b refl)
 no_letter_field bs (Some (Number b)) is other = no_letter bs is.1.1
-
-pub no_operands : (bs left : List ℕ) (letter : ℕ) → bs ≡ letter ∷ left → NoOperands left → NoLine bs
-no_operands bs left letter split none letter' numbers after is fits e = none numbers after fits (same_tail letter letter' _ _ (sym split ∙ e))
-
--- a word that is a letter is one byte
-pub one_letter : (w : List ℕ) → is_letter w ≡ true → w ≡ get_or w 0 0 ∷ []
-one_letter w is =
-    let one = eqb-true (length w) 1 (and_parts (eqb (length w) 1) (not (digit (get_or w 0 0))) is).0 in
-    same_lists _ _ one (λ k d within. grind (arith, places))
