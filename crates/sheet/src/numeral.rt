@@ -16,7 +16,7 @@ fn has_number_shape(digits: &[u8]) -> bool
 }
 
 // The number that these bytes write in decimal digits, without a leading zero, if they write one of 32 bits.
-#[tactic(auto, using(crate::proofs::Decimals::decimal_shape, crate::proofs::Decimals::decimal_digit_at, crate::proofs::Decimals::shaped_short))]
+#[tactic(auto, using(crate::proofs::Decimals::decimal_shape, crate::proofs::Decimals::decimal_digit_at))]
 pub fn number(digits: &[u8]) -> Option<u32>
     ensures { ReadsNumber digits.now result }
 {

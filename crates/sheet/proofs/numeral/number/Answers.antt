@@ -4,6 +4,11 @@ use Rattle.std.specs.Str.Parse.{AllDigits, digits_value}
 use Rattle.sheet.proofs.Decimals.{reads_value, shaped_short, summed_more}
 use Rattle.sheet.proofs.numeral.number.Goals as goal
 
+pub overflow_mul-value : goal.overflow_mul-value
+overflow_mul-value c =
+    let short = shaped_short _ _ _ c.loop-b.invariant (sym c.if-not-has_number_shape.ensures) in
+    record { fits = omega (arith, short) }
+
 pub overflow_add-value : goal.overflow_add-value
 overflow_add-value c =
     let short = shaped_short _ _ _ c.loop-b.invariant (sym c.if-not-has_number_shape.ensures) in
