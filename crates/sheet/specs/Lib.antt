@@ -1,8 +1,8 @@
 pub mod CallLists
 pub mod Fields
 pub mod Laws
-pub mod LineErrors
 pub mod Limits
+pub mod LineErrors
 pub mod Lines
 pub mod Numbers
 pub mod Outcomes
