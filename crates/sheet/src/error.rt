@@ -4,7 +4,7 @@ ghost use Rattle.sheet.specs.declared.error.ReadError.{ReadError};
 ghost use Rattle.sheet.specs.LineErrors.{error_at};
 
 use book::Refusal;
-use std::alloc::AllocError;
+use std::alloc::{AllocError, AllocFailed};
 
 // Why a sheet was not read.
 #[derive(Clone, Copy, Debug, PartialEq, Eq)]
@@ -17,6 +17,14 @@ impl From<AllocError> for ReadError {
     ghost from_gives = { λ _ r. r ≡ ReadError.NoMemory };
 
     fn from(_e: AllocError) -> ReadError {
+        ReadError::NoMemory
+    }
+}
+
+impl<T: Drop> From<AllocFailed<T>> for ReadError {
+    ghost from_gives = { λ _ r. r ≡ ReadError.NoMemory };
+
+    fn from(_e: AllocFailed<T>) -> ReadError {
         ReadError::NoMemory
     }
 }

@@ -9,7 +9,7 @@ use super::Sheet;
 use crate::error::ReadError;
 use crate::line::LineReader;
 use book::{Call, Refusal};
-use std::alloc::{AllocError, Global};
+use std::alloc::Global;
 
 const MAX_BYTES: usize = 16_384;
 
@@ -53,7 +53,7 @@ impl LineReader<'_> {
             }
             let line = self.cursor.line();
             let call = self.read_call().map_err(|e| e.on_line(line))?;
-            calls.push(call).map_err(AllocError::from)?;
+            calls.push(call)?;
         }
         Ok(calls)
     }

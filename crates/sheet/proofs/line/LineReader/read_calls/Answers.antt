@@ -25,5 +25,5 @@ returns-in_err-call c =
     (λ none. stops_at _ _ _ _ _ c.loop-calls.invariant.front (omega (arith, eqb-false _ max_calls (sym c.if-is_full.ensures), c.loop-calls.calls.ok.0)) (omega arith) none (c.line-line.ensures ∙ c.loop-calls.invariant.line))
     no_memory)
 
-pub returns-in_err-map_err : goal.returns-in_err-map_err
-returns-in_err-map_err c = let p = err_from_is_err_and c.from_residual-in_err-map_err.result c.from_residual-in_err-map_err.ensures.1 in rw (p.1, p.2) no_memory
+pub returns-in_err-push : goal.returns-in_err-push
+returns-in_err-push c = let p = err_from_is_err_and c.from_residual-in_err-push.result c.from_residual-in_err-push.ensures.1 in rw (p.1, p.2) no_memory
