@@ -1,5 +1,5 @@
 -- Accepted requests on the serial engine.
-use Rattle.std.specs.Prelude.{◌≡◌, ℕ, ◌+◌, ◌<◌, ◌≤◌, Bool, true, false, not, ◌&&◌, List, [], map, length, set, is_some, Some, None, count_by, Option, ◌==◌, ◌≢◌, nat_le, slice_index_or, slice_set, refl}
+use Rattle.std.specs.Prelude.{◌≡◌, ℕ, ◌+◌, ◌<◌, ◌≤◌, true, false, not, ◌&&◌, List, [], map, length, set, is_some, Some, None, count_by, Option, ◌==◌, ◌≢◌, nat_le, slice_index_or, slice_set, refl}
 use Rattle.std.proofs.Common.{inl, inr, sym, ap, ◌∙◌, arith, length-set}
 use Rattle.std.proofs.lemmas.Bool.{cases_Bool, cond-false, cond-true, eqb-true, leb-false}
 use Rattle.std.proofs.lemmas.Bool.Decides.{nat_tests}
@@ -7,13 +7,13 @@ use Rattle.book.specs.declared.call.Call.{Call}
 use Rattle.book.specs.declared.call.Call.TheVariants as calls
 use Rattle.book.specs.declared.call.Kind.{Kind}
 use Rattle.book.specs.declared.call.Kind.TheVariants.{Reader, Writer}
-use Rattle.book.specs.declared.refusal.Refusal.{Refusal}
-use Rattle.book.specs.Calls.{end_refusal, has_made, if_then, is_busy, is_writer, numbers_taken, open_refusal, put_refusal, refusal_of, seat_of, seat_refusal, will_make}
+use Rattle.book.specs.Calls.{end_refusal, has_made, is_busy, is_writer, numbers_taken, open_refusal, put_refusal, refusal_of, seat_of, seat_refusal, will_make}
 use Rattle.book.specs.Effects.{Accepts}
 use Rattle.book.specs.Meaning.{Meaning, Open, seat_part}
 use Rattle.book.specs.Sizes.{max_number, seat_count}
 use Rattle.book.specs.Writes.{CellValue}
 use Rattle.book.specs.WriteSets.{entries, has_room}
+use Rattle.book.proofs.Requests.{none_above}
 use Rattle.serial.specs.declared.state.Stage.{Stage}
 use Rattle.serial.specs.declared.state.Stage.TheVariants.{Ending, Getting, Made, Putting, Ready}
 use Rattle.serial.specs.declared.state.State.{State}
@@ -24,10 +24,6 @@ use Rattle.serial.specs.Seats.{part_with_turn, turn_of}
 use Rattle.serial.specs.States.{has_turn, latest, meaning_of, stage_owed, stage_request, stage_sight, turn_part, waiting_part, with_turn}
 use Rattle.serial.proofs.SeatLists.{count_set, goes_on, one, waits_now}
 use Rattle.serial.specs.Laws.{Sound, part_is, seats_sized}
-
-pub none_above : (b : Bool) (r : Refusal) (x : Option Refusal) → if_then b r x ≡ None → (b ≡ false) × (x ≡ None)
-none_above true r x e = cc
-none_above false r x e = (refl, e)
 
 pub seat_place : (m : Meaning) (call : Call) → refusal_of m call ≡ None → (seat_of call < 8) × (seat_refusal m call ≡ None)
 seat_place m call e = let parts = none_above (nat_le seat_count (seat_of call)) _ (seat_refusal m call) e in (leb-false seat_count (seat_of call) parts.0, parts.1)

@@ -11,7 +11,8 @@ use Rattle.serial.specs.declared.state.State.{State}
 use Rattle.serial.specs.declared.state.Turn.{Turn}
 use Rattle.serial.specs.Moves.{SeatSteps}
 use Rattle.serial.specs.States.{has_turn, meaning_of}
-use Rattle.serial.proofs.Accepting.{none_above, seat_place}
+use Rattle.book.proofs.Requests.{none_above}
+use Rattle.serial.proofs.Accepting.{seat_place}
 use Rattle.serial.specs.Laws.{Sound}
 
 busy_part : (part : Option Open) → step_refusal part ≡ None → (o : Open) × (part ≡ Some o) × (is_busy o ≡ true)
