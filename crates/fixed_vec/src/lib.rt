@@ -50,7 +50,7 @@ impl<T: Copy, const N: usize> FixedVec<T, N> {
 
     // A copy of these elements, if there are places for them. The unused places hold `blank`.
     pub fn from_slice(elements: &[T], blank: T) -> Result<Self, Full>
-        ensures { MatchResult result (λ v. v.items ≡ elements.now) (λ _. N < length elements.now) }
+        ensures { MatchResult result (λ v. (v.items ≡ elements.now) × (length elements.now ≤ N)) (λ _. N < length elements.now) }
     {
         if elements.len() > N {
             return Err(Full);

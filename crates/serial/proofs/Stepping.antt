@@ -1,9 +1,7 @@
 -- Steps of the serial engine.
-use Rattle.std.specs.Prelude.{◌≡◌, ℕ, ◌+◌, ◌<◌, ◌≤◌, Bool, true, false, not, ◌&&◌, ◌⊎◌, List, [], ◌∷◌, map, get_or, set, is_some, Some, None, Option, Ok, Err, Result, slice_index_or, slice_set, refl}
+use Rattle.std.specs.Prelude.{◌≡◌, ℕ, ◌+◌, ◌<◌, ◌≤◌, Bool, true, false, not, ◌&&◌, ◌⊎◌, List, [], ◌∷◌, map, get_or, set, is_some, Some, None, Option, slice_index_or, slice_set, refl}
 use Rattle.std.proofs.Common.{inl, inr, sym, ap, subst, ◌∙◌, arith, length-set}
 use Rattle.std.specs.List.{push}
-use Rattle.std.proofs.lemmas.Bool.{both_ways}
-use Rattle.book.specs.declared.refusal.Refusal.{Refusal}
 use Rattle.book.specs.declared.answer.Word.{Word}
 use Rattle.book.specs.declared.answer.Word.TheVariants as words
 use Rattle.book.specs.declared.call.Call.TheVariants as calls
@@ -15,7 +13,7 @@ use Rattle.book.specs.Effects as effects
 use Rattle.book.specs.Effects.{committed, onward, Steps, tells, with_seat}
 use Rattle.book.specs.Meaning.{Meaning, nothing, Open, opening, seat_part, Sight, view}
 use Rattle.book.specs.Writes.{applied, CellValue, with_put, Write}
-use Rattle.book.specs.WriteSets.{entries, has_room, Puts}
+use Rattle.book.specs.WriteSets.{entries, has_room}
 use Rattle.fixed_vec.specs.Listed.{Listed}
 use Rattle.serial.specs.declared.state.Stage.{Stage}
 use Rattle.serial.specs.declared.state.Stage.TheVariants.{Ending, Getting, Made, Putting, Ready}
@@ -37,11 +35,6 @@ applied_last (v ∷ ws) w cells = ap (λ (l : List CellValue). slice_set l v.cel
 -- one more write is made, the last of those that were left
 pub write_more : (left rest : List Write) (w : Write) (cells all : List CellValue) → left ≡ push rest w → applied left cells ≡ all → applied rest (slice_set cells w.cell w.value) ≡ all
 write_more left rest w cells all last so_far = sym (applied_last rest w cells) ∙ ap (λ (ws : List Write). applied ws cells) (sym last) ∙ so_far
-
--- where there is room, the put joins the entries
-pub put_done : (p : Write) (ws ws' : List Write) (r : Result (Unit {0}) Refusal) → has_room p.cell ws ≡ true → Puts p ws ws' r → ws' ≡ with_put p ws
-put_done p ws ws' (Ok _) room (_, joined) = joined
-put_done p ws ws' (Err _) room (_, full, _) = absurd (both_ways (has_room p.cell ws) full room)
 
 -- a step, told by what was answered and by the state that it led to
 pub steps_to : (m : Meaning) (seat : ℕ) (o : Open) (r answer : Word × ℕ) (st after : State) → r ≡ answer → st ≡ after → Steps m seat o answer.0 answer.1 (meaning_of after) → Steps m seat o r.0 r.1 (meaning_of st)

@@ -7,7 +7,7 @@ use Rattle.std.proofs.lemmas.Bool.{cases_Bool, cond-false, cond-true, eq-eqb, eq
 use Rattle.book.specs.Calls.{is_busy, numbers_taken}
 use Rattle.book.specs.Meaning.{Open, seat_part}
 use Rattle.book.specs.Progress.{SomeBusyMoves}
-use Rattle.book.specs.Sizes.{seat_count}
+use Rattle.book.specs.Sizes.{max_number, seat_count}
 use Rattle.serial.specs.declared.serial.Serial.{Serial}
 use Rattle.serial.specs.declared.state.State.{State}
 use Rattle.serial.specs.declared.state.Turn.{Turn}
@@ -18,10 +18,10 @@ use Rattle.serial.specs.States.{has_turn, latest, meaning_of, turn_part, turn_se
 -- what the engine's type says of its state
 abbrev pub Sound : State → Type 0
 Sound st = record {
-  seats : length st.waiting ≡ 8;
-  within : turn_seat st.turn < 8;
+  seats : length st.waiting ≡ seat_count;
+  within : turn_seat st.turn < seat_count;
   fits : turn_room st.turn ≡ true;
-  room : numbers_taken (meaning_of st) ≤ 2147483647;
+  room : numbers_taken (meaning_of st) ≤ max_number;
 }
 
 pub sound_of : (e : Serial) → Sound e.state

@@ -1,8 +1,9 @@
 // What the engine does, once it is known that it may.
-ghost use Rattle.std.specs.Prelude.{◌≡◌, ◌≤◌, true, false, [], length, is_some, Some, None, slice_get};
+ghost use Rattle.std.specs.Prelude.{◌≡◌, ◌≤◌, true, false, [], is_some, Some, None, slice_get};
 ghost use Rattle.book.specs.declared.call.Call.TheVariants.{End, Open, Step};
 ghost use Rattle.book.specs.Calls.{has_made, refusal_of};
 ghost use Rattle.book.specs.Effects.{Accepts};
+ghost use Rattle.book.specs.Sizes.{max_number};
 ghost use Rattle.serial.specs.Moves.{Asked, fresh, SeatSteps, TurnSteps};
 ghost use Rattle.serial.specs.Rooms.{stage_room};
 ghost use Rattle.serial.specs.declared.state.Turn.{Turn};
@@ -16,7 +17,7 @@ use book::{Kind, SEATS, Seat, Value, Word, WriteSet};
 impl Serial {
     // A book with these cells and this number, all of its seats free.
     pub(crate) fn with_cells(number: u32, cells: Cells) -> Serial
-        requires { number ≤ 2147483647 }
+        requires { number ≤ max_number }
         ensures { meaning_of result.state ≡ fresh number cells.items (meaning_of result.state).waits }
     {
         Serial {
@@ -77,14 +78,17 @@ impl Serial {
     {
         match turn.stage {
             Stage::Ready => unreachable(),
+            // The get was accepted, so there is such a cell.
             Stage::Getting { cell } => {
                 let latest = self.value_at(cell).unwrap_or(0);
                 self.state.tell(turn, cell, latest)
             },
             Stage::Putting { write } => {
                 let mut writes = turn.writes;
-                let _ = writes.put(write);
-                self.state.put(turn, writes)
+                match writes.put(write) {
+                    Ok(()) => self.state.put(turn, writes),
+                    Err(_) => unreachable(),
+                }
             },
             Stage::Ending => match turn.kind {
                 Kind::Writer => self.state.commit(turn),

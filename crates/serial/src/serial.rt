@@ -1,5 +1,6 @@
 ghost use Rattle.std.specs.Prelude.{◌≡◌, ◌<◌, ◌≤◌, true, length};
 ghost use Rattle.book.specs.Calls.{numbers_taken};
+ghost use Rattle.book.specs.Sizes.{max_number, seat_count};
 ghost use Rattle.serial.specs.Rooms.{turn_room};
 ghost use Rattle.serial.specs.States.{meaning_of, turn_seat};
 
@@ -9,8 +10,8 @@ use crate::state::State;
 #[derive(Clone, Copy)]
 pub struct Serial {
     pub(crate) state: State,
-    ghost seats: { length state.waiting ≡ 8 },
-    ghost within: { turn_seat state.turn < 8 },
+    ghost seats: { length state.waiting ≡ seat_count },
+    ghost within: { turn_seat state.turn < seat_count },
     ghost fits: { turn_room state.turn ≡ true },
-    ghost room: { numbers_taken (meaning_of state) ≤ 2147483647 },
+    ghost room: { numbers_taken (meaning_of state) ≤ max_number },
 }

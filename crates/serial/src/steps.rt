@@ -1,7 +1,8 @@
 // What the engine's state becomes and what is answered, move by move.
-ghost use Rattle.std.specs.Prelude.{◌≡◌, ◌+◌, ◌<◌, ◌≤◌, length, take};
+ghost use Rattle.std.specs.Prelude.{◌≡◌, ◌+◌, ◌<◌};
 ghost use Rattle.std.specs.Option.{unwrap_or};
 ghost use Rattle.book.specs.declared.answer.Word.TheVariants.{Ended, Made, Opened, Put, Told};
+ghost use Rattle.book.specs.Sizes.{max_number};
 ghost use Rattle.book.specs.Writes.{applied, written};
 ghost use Rattle.book.specs.WriteSets.{entries};
 ghost use Rattle.serial.specs.declared.state.Stage.TheVariants.{Ready};
@@ -55,7 +56,7 @@ impl State {
 
     // The transaction's writes become the latest cells.
     pub(crate) fn commit(&mut self, turn: Turn) -> (Word, u32)
-        requires { self.old.number < 2147483647 }
+        requires { self.old.number < max_number }
         ensures after { self.new ≡ committed_at self.old self.new.cells turn }
         ensures wrote { latest self.new ≡ applied (entries turn.writes) (latest self.old) }
         ensures answer { result ≡ (Made, self.old.number + 1) }

@@ -6,7 +6,7 @@ use Rattle.book.specs.Writes.{written}
 use Rattle.book.specs.WriteSets.{entries}
 use Rattle.serial.specs.declared.state.Stage.{Stage}
 use Rattle.serial.specs.States.{latest, stage_sight}
-use Rattle.serial.proofs.Stepping.{answered_sound, ended_sound, ends_now, made_sound, maker_writes, makes_now, number_left, put_done, put_room, puts_now, steps_to, tells_now}
+use Rattle.serial.proofs.Stepping.{answered_sound, ended_sound, ends_now, made_sound, maker_writes, makes_now, number_left, puts_now, steps_to, tells_now}
 use Rattle.serial.proofs.serial.Serial.step_of_turn.Goals as goal
 use Rattle.serial.specs.Laws.{Sound, sound_of}
 
@@ -22,16 +22,15 @@ returns-in-Getting c =
     let answer = c.tell.ensures.answer ∙ ap (λ v. (_, unwrap_or (written c.in-Getting.cell (entries c.args.turn.writes)) v)) value in
     steps_to _ _ _ _ _ _ _ answer c.tell.ensures.after (tells_now e.state (sound_of e) c.args.turn c.requires.turn c.in-Getting.cell c.in-Getting.is)
 
-pub invariant_of-self-in-Putting : goal.invariant_of-self-in-Putting
-invariant_of-self-in-Putting c =
+pub invariant_of-self-in-Ok : goal.invariant_of-self-in-Ok
+invariant_of-self-in-Ok c =
     let e = c.args.self.now in
-    subst Sound (sym c.put-in-Putting.ensures.after) (answered_sound e.state (sound_of e) c.args.turn c.requires.turn c.put.new.self (ap (λ (x : Stage). has_made (stage_sight x e.state.number (latest e.state))) c.in-Putting.is))
+    subst Sound (sym c.put-in-Ok.ensures.after) (answered_sound e.state (sound_of e) c.args.turn c.requires.turn c.put.new.self (ap (λ (x : Stage). has_made (stage_sight x e.state.number (latest e.state))) c.in-Putting.is))
 
-pub returns-in-Putting : goal.returns-in-Putting
-returns-in-Putting c =
+pub returns-in-Ok : goal.returns-in-Ok
+returns-in-Ok c =
     let e = c.args.self.now in
-    let room = put_room e.state (sound_of e) c.args.turn c.requires.turn c.in-Putting.write c.in-Putting.is in
-    steps_to _ _ _ _ _ _ _ c.put-in-Putting.ensures.answer c.put-in-Putting.ensures.after (puts_now e.state (sound_of e) c.args.turn c.requires.turn c.in-Putting.write c.put.new.self c.in-Putting.is (put_done c.in-Putting.write (entries c.args.turn.writes) (entries c.put.new.self) c.put.result room c.put.ensures))
+    steps_to _ _ _ _ _ _ _ c.put-in-Ok.ensures.answer c.put-in-Ok.ensures.after (puts_now e.state (sound_of e) c.args.turn c.requires.turn c.in-Putting.write c.put.new.self c.in-Putting.is c.in-Ok.ensures.1)
 
 pub commit-requires : goal.commit-requires
 commit-requires c =
