@@ -9,7 +9,7 @@ use crate::refusal::Refusal;
 use std::array;
 use std::marker::Model;
 
-// A seat that the book has. Calls bear any number; here it is known to be one of a seat.
+// A seat that the book has: its number is below the count of seats. Calls bear any number.
 #[derive(Clone, Copy, Debug, PartialEq, Eq)]
 pub struct Seat {
     number: u32,

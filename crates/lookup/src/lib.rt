@@ -22,7 +22,7 @@ pub fn last_match<T: Entry>(entries: &[T], question: &T::Question) -> Option<usi
     last_suiting(entries, question)
 }
 
-// The search itself. Its contract is the law alone, which only one place can keep.
+// The search itself, apart from the proof that only one place can keep this law.
 fn last_suiting<T: Entry>(entries: &[T], question: &T::Question) -> Option<usize>
     ensures { IsLast (λ x. T.suits x question.now) entries.now result }
 {

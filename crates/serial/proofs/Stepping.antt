@@ -13,7 +13,7 @@ use Rattle.book.specs.Effects as effects
 use Rattle.book.specs.Effects.{committed, onward, Steps, tells, with_seat}
 use Rattle.book.specs.Meaning.{Meaning, nothing, Open, opening, seat_part, Sight, view}
 use Rattle.book.specs.Writes.{applied, CellValue, with_put, Write}
-use Rattle.book.specs.WriteSets.{entries, has_room}
+use Rattle.book.specs.WriteSets.{entries}
 use Rattle.fixed_vec.specs.Listed.{Listed}
 use Rattle.serial.specs.declared.state.Stage.{Stage}
 use Rattle.serial.specs.declared.state.Stage.TheVariants.{Ending, Getting, Made, Putting, Ready}
@@ -96,9 +96,6 @@ module _ (st : State) (sound : Sound st) (t : Turn) (turn_is : st.turn ≡ Some 
   puts_now write ws asked wrote =
       subst (Steps (meaning_of st) t.seat (turn_part t st.number (latest st)) words.Put 0) (answered_is ws _ _ (ap (λ (x : Stage). stage_sight x st.number (latest st)) asked) (sym wrote))
       (effects.puts goes write (ap stage_request asked) 0 (omega (arith, ap (λ (x : Stage). stage_owed x t.kind) asked)) _)
-
-  pub put_room : (write : Write) → t.stage ≡ Putting write → has_room write.cell (entries t.writes) ≡ true
-  put_room write asked = ap (λ (x : Stage). stage_room x t.kind t.writes) (sym asked) ∙ ap turn_room (sym turn_is) ∙ sound.fits
 
   writer_is : (k : Kind) → is_writer k ≡ true → k ≡ Writer
   writer_is Reader e = cc

@@ -54,6 +54,7 @@ impl Engine for Serial {
 
     fn step(&mut self, seat: u32) -> Result<(Word, u32), Refusal> {
         let seat = self.allow(Call::Step { seat })?;
+        // A copy, since the arms change the engine.
         let turn = self.state.turn;
         match turn {
             None => Ok(self.first_step(seat)),

@@ -27,6 +27,7 @@ fn operand(cursor: &mut Cursor) -> Option<u32>
 pub(crate) struct LineReader<'a> {
     pub(crate) cursor: Cursor<'a>,
     pub(crate) numbers: Vec<u32>,
+    pub(crate) heap: Global,
 }
 
 impl<'a> LineReader<'a> {
@@ -36,6 +37,7 @@ impl<'a> LineReader<'a> {
         LineReader {
             cursor: Cursor::new(sheet),
             numbers: Vec::new(heap),
+            heap,
         }
     }
 

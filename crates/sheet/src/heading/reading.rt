@@ -6,7 +6,6 @@ ghost use Rattle.sheet.specs.Readings.{ReadsHeadingLine};
 use super::{EngineChoice, Heading, UnknownEngine};
 use crate::error::LineError;
 use crate::line::LineReader;
-use std::alloc::Global;
 
 impl From<UnknownEngine> for LineError {
     ghost from_gives = { λ _ e. e ≡ Unreadable };
@@ -18,7 +17,7 @@ impl From<UnknownEngine> for LineError {
 
 impl LineReader<'_> {
     // Reads the heading on the next line.
-    pub(crate) fn read_heading(&mut self, heap: Global) -> Result<Heading, LineError>
+    pub(crate) fn read_heading(&mut self) -> Result<Heading, LineError>
         ensures { OnReading result (λ o. ReadsHeadingLine self.old.cursor self.new.cursor o) }
     {
         let letter = self.read_line()?;
@@ -26,7 +25,7 @@ impl LineReader<'_> {
         let [version, cells @ ..] = self.numbers.as_slice() else {
             return Err(LineError::Unreadable);
         };
-        let cells = Vec::from_slice(heap, cells)?;
+        let cells = Vec::from_slice(self.heap, cells)?;
         Ok(Heading {
             engine,
             version: *version,

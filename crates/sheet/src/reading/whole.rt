@@ -36,17 +36,17 @@ pub fn read(heap: Global, bytes: &[u8]) -> Result<Sheet, ReadError>
         return Err(ReadError::Declined(Refusal::SheetTooLong));
     }
     let mut lines = LineReader::new(heap, bytes);
-    let heading = lines.read_heading(heap).map_err(|e| e.on_line(1))?;
-    let calls = lines.read_calls(heap)?;
+    let heading = lines.read_heading().map_err(|e| e.on_line(1))?;
+    let calls = lines.read_calls()?;
     Ok(Sheet { heading, calls })
 }
 
 impl LineReader<'_> {
     // Reads the calls on the lines that are left, one a line.
-    fn read_calls(&mut self, heap: Global) -> Result<Vec<Call>, ReadError>
+    fn read_calls(&mut self) -> Result<Vec<Call>, ReadError>
         ensures { MatchResult result (λ v. AllCalls (rest self.old.cursor) v.items) (λ e. StopsCalls (rest self.old.cursor) self.old.cursor.line e) }
     {
-        let mut calls = Vec::new(heap);
+        let mut calls = Vec::new(self.heap);
         while !self.cursor.at_end() {
             if is_full(&calls) {
                 return Err(ReadError::Declined(Refusal::SheetTooLong));
