@@ -33,7 +33,7 @@ impl<T, const N: usize> Model for FixedVec<T, N> {
     } };
 }
 
-// One element more was pushed than there are places.
+// There are fewer places than elements.
 #[derive(Clone, Copy, Debug, PartialEq, Eq)]
 pub struct Full;
 
