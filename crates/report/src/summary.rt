@@ -17,11 +17,10 @@ fn count(calls: &[Call], letter: char) -> usize
 }
 
 // Adds one row, a label and a number, to the text.
-fn push_row(text: &mut String, heap: Global, label: &str, n: usize) -> Result<(), AllocError>
+fn push_row(text: &mut String, label: &str, n: usize) -> Result<(), AllocError>
     ensures { OnOk result (string_bytes text.new ≡ string_bytes text.old ++ row_text label.now n) }
 {
-    let row = format!(in heap; "{label} {n}\n")?;
-    text.push_str(row.as_str())
+    writeln!(text, "{label} {n}")
 }
 
 // What a readable sheet holds, in ten rows.
@@ -31,14 +30,14 @@ pub(crate) fn summary(heap: Global, sheet: &Sheet) -> Result<String, AllocError>
     let engine = sheet.heading.engine;
     let calls = sheet.calls.as_slice();
     let mut text = format!(in heap; "engine {engine}\n")?;
-    push_row(&mut text, heap, "version", sheet.heading.version as usize)?;
-    push_row(&mut text, heap, "cells", sheet.heading.cells.len())?;
-    push_row(&mut text, heap, "calls", calls.len())?;
-    push_row(&mut text, heap, "openings of readers", count(calls, 'r'))?;
-    push_row(&mut text, heap, "openings of writers", count(calls, 'w'))?;
-    push_row(&mut text, heap, "gets", count(calls, 'g'))?;
-    push_row(&mut text, heap, "puts", count(calls, 'p'))?;
-    push_row(&mut text, heap, "ends", count(calls, 'e'))?;
-    push_row(&mut text, heap, "steps", count(calls, 's'))?;
+    push_row(&mut text, "version", sheet.heading.version as usize)?;
+    push_row(&mut text, "cells", sheet.heading.cells.len())?;
+    push_row(&mut text, "calls", calls.len())?;
+    push_row(&mut text, "openings of readers", count(calls, 'r'))?;
+    push_row(&mut text, "openings of writers", count(calls, 'w'))?;
+    push_row(&mut text, "gets", count(calls, 'g'))?;
+    push_row(&mut text, "puts", count(calls, 'p'))?;
+    push_row(&mut text, "ends", count(calls, 'e'))?;
+    push_row(&mut text, "steps", count(calls, 's'))?;
     Ok(text)
 }
