@@ -1,4 +1,4 @@
-// A list of at most so many elements, which lie in the value itself: it takes no memory but its own, and it can be copied.
+// A list with a fixed number of places, which lie in the value itself: it takes no memory but its own, and it can be copied.
 #![tactic(auto)]
 
 ghost use Rattle.std.specs.Prelude.{◌≡◌, ◌<◌, ◌≤◌, [], ◌∷◌, ◌++◌, length, OnErr, OnOk, MatchResult, slice_set};
@@ -11,7 +11,7 @@ pub struct FixedVec<T, const N: usize> {
     len: usize,
 }
 
-// Clauses see the elements, and what lies in the unused places, of which they say nothing.
+// Clauses speak of the elements. Of what lies in the unused places they say at most that the whole list is as it was.
 impl<T, const N: usize> Model for FixedVec<T, N> {
     ghost use Rattle.std.specs.Prelude.{◌≡◌, ◌≤◌, ◌++◌, length, take, drop};
     ghost use Rattle.std.proofs.Common.{arith, take-append-drop, length-take-le};
