@@ -2,6 +2,7 @@
 #![tactic(auto)]
 
 ghost use Rattle.std.specs.Prelude.{◌≡◌, ◌<◌, ◌≤◌, [], ◌∷◌, ◌++◌, length, OnErr, OnOk, MatchResult, slice_set};
+ghost use Rattle.fixed_vec.specs.Listed.{places};
 
 use std::marker::Model;
 
@@ -11,7 +12,8 @@ pub struct FixedVec<T, const N: usize> {
     len: usize,
 }
 
-// Clauses speak of the elements. Of what lies in the unused places they say at most that the whole list is as it was.
+// Clauses speak of the elements, and of how many places there are. Of what lies in the unused ones they say at most that
+// it is as it was.
 impl<T, const N: usize> Model for FixedVec<T, N> {
     ghost use Rattle.std.specs.Prelude.{◌≡◌, ◌≤◌, ◌++◌, length, take, drop};
     ghost use Rattle.std.proofs.Common.{arith, take-append-drop, length-take-le};
@@ -40,7 +42,8 @@ pub struct Full;
 impl<T: Copy, const N: usize> FixedVec<T, N> {
     // No elements. The unused places hold `blank`.
     pub fn new(blank: T) -> Self
-        ensures { result.items ≡ [] }
+        ensures empty { result.items ≡ [] }
+        ensures whole { length (places result) ≡ N }
     {
         FixedVec {
             places: [blank; N],
@@ -50,7 +53,7 @@ impl<T: Copy, const N: usize> FixedVec<T, N> {
 
     // A copy of these elements, if there are places for them. The unused places hold `blank`.
     pub fn from_slice(elements: &[T], blank: T) -> Result<Self, Full>
-        ensures { MatchResult result (λ v. (v.items ≡ elements.now) × (length elements.now ≤ N)) (λ _. N < length elements.now) }
+        ensures { MatchResult result (λ v. (v.items ≡ elements.now) × (length elements.now ≤ N) × (length (places v) ≡ N)) (λ _. N < length elements.now) }
     {
         if elements.len() > N {
             return Err(Full);
@@ -82,6 +85,7 @@ impl<T: Copy, const N: usize> FixedVec<T, N> {
         ensures added { OnOk result (self.new.items ≡ self.old.items ++ element ∷ []) }
         ensures full { OnErr result (length self.old.items ≡ N) }
         ensures unchanged { OnErr result (self.new ≡ self.old) }
+        ensures whole { length (places self.new) ≡ N }
     {
         if self.len == N {
             return Err(Full);
@@ -94,7 +98,8 @@ impl<T: Copy, const N: usize> FixedVec<T, N> {
     // Puts an element in the place of another. Where the list has no such place, nothing changes.
     #[tactic(auto, using(crate::proofs::Places::take_set_below))]
     pub fn set(&mut self, place: usize, element: T)
-        ensures { self.new.items ≡ slice_set self.old.items place element }
+        ensures items { self.new.items ≡ slice_set self.old.items place element }
+        ensures spare { self.new.spare ≡ self.old.spare }
     {
         if place < self.len {
             self.places[place] = element;

@@ -68,6 +68,8 @@ module _ (st : State) (sound : Sound st) (kind : Kind) (seat : ℕ) (none : refu
 
   pub opening_sound : Sound (waiting_at st seat (Some kind))
   opening_sound = record {
+    cells = sound.cells;
+    count = sound.count;
     seats = length-set st.waiting seat (Some kind) ∙ sound.seats;
     within = sound.within;
     fits = sound.fits;
@@ -172,6 +174,8 @@ module _ (st : State) (sound : Sound st) (seat : ℕ) (stage : Stage) (none : re
 
     pub asks_sound : stage_room stage t.kind t.writes ≡ true → Sound (turn_at st next)
     asks_sound fits = record {
+      cells = sound.cells;
+      count = sound.count;
       seats = sound.seats;
       within = omega (arith, turn_is.1, at_place);
       fits = fits;

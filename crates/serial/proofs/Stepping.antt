@@ -1,6 +1,6 @@
 -- Steps of the serial engine.
 use Rattle.std.specs.Prelude.{◌≡◌, ℕ, ◌+◌, ◌<◌, ◌≤◌, Bool, true, false, not, ◌&&◌, ◌⊎◌, List, [], ◌∷◌, map, get_or, set, is_some, Some, None, Option, slice_index_or, slice_set, refl}
-use Rattle.std.proofs.Common.{inl, inr, sym, ap, subst, ◌∙◌, arith, length-set}
+use Rattle.std.proofs.Common.{length, inl, inr, sym, ap, subst, ◌∙◌, arith, length-set}
 use Rattle.std.specs.List.{push}
 use Rattle.book.specs.declared.answer.Word.{Word}
 use Rattle.book.specs.declared.answer.Word.TheVariants as words
@@ -12,9 +12,11 @@ use Rattle.book.specs.Calls.{has_made, is_writer, numbers_taken, refusal_of, wil
 use Rattle.book.specs.Effects as effects
 use Rattle.book.specs.Effects.{committed, onward, Steps, tells, with_seat}
 use Rattle.book.specs.Meaning.{Meaning, nothing, Open, opening, seat_part, Sight, view}
+use Rattle.book.specs.Sizes.{max_cells}
 use Rattle.book.specs.Writes.{applied, CellValue, with_put, Write}
 use Rattle.book.specs.WriteSets.{entries}
-use Rattle.fixed_vec.specs.Listed.{Listed}
+use Rattle.fixed_vec.specs.Listed.{Listed, places}
+use Rattle.fixed_vec.proofs.Places.{items_fit, places_stay}
 use Rattle.serial.specs.declared.state.Stage.{Stage}
 use Rattle.serial.specs.declared.state.Stage.TheVariants.{Ending, Getting, Made, Putting, Ready}
 use Rattle.serial.specs.declared.state.State.{State}
@@ -35,6 +37,11 @@ applied_last (v ∷ ws) w cells = ap (λ (l : List CellValue). slice_set l v.cel
 -- one more write is made, the last of those that were left
 pub write_more : (left rest : List Write) (w : Write) (cells all : List CellValue) → left ≡ push rest w → applied left cells ≡ all → applied rest (slice_set cells w.cell w.value) ≡ all
 write_more left rest w cells all last so_far = sym (applied_last rest w cells) ∙ ap (λ (ws : List Write). applied ws cells) (sym last) ∙ so_far
+
+-- writes keep how many cells there are
+applied_length : (ws : List Write) (cells : List CellValue) → length (applied ws cells) ≡ length cells
+applied_length [] cells = refl
+applied_length (w ∷ ws) cells = length-set (applied ws cells) w.cell w.value ∙ applied_length ws cells
 
 -- a step, told by what was answered and by the state that it led to
 pub steps_to : (m : Meaning) (seat : ℕ) (o : Open) (r answer : Word × ℕ) (st after : State) → r ≡ answer → st ≡ after → Steps m seat o answer.0 answer.1 (meaning_of after) → Steps m seat o r.0 r.1 (meaning_of st)
@@ -78,6 +85,8 @@ module _ (st : State) (sound : Sound st) (t : Turn) (turn_is : st.turn ≡ Some 
 
   pub answered_sound : (ws : WriteSet) → has_made (stage_sight t.stage st.number (latest st)) ≡ false → Sound (answered ws)
   answered_sound ws unmade = record {
+    cells = sound.cells;
+    count = sound.count;
     seats = sound.seats;
     within = place;
     fits = refl;
@@ -117,6 +126,8 @@ module _ (st : State) (sound : Sound st) (t : Turn) (turn_is : st.turn ≡ Some 
 
   pub ended_sound : Sound (ended_at st t.seat)
   ended_sound = record {
+    cells = sound.cells;
+    count = sound.count;
     seats = length-set st.waiting t.seat None ∙ sound.seats;
     within = omega arith;
     fits = refl;
@@ -132,7 +143,7 @@ module _ (st : State) (sound : Sound st) (t : Turn) (turn_is : st.turn ≡ Some 
       (effects.ends_reader goes (ap stage_request at) kind st.number (latest st) (ap (λ (x : Stage). stage_sight x st.number (latest st)) at) (omega (arith, owed_is Ending Reader at kind)) _)
 
   -- made
-  module _ (cells : Listed CellValue) (wrote : cells.items ≡ applied (entries t.writes) (latest st)) (at : t.stage ≡ Ending) (kind : t.kind ≡ Writer) where
+  module _ (cells : Listed CellValue) (wrote : cells.items ≡ applied (entries t.writes) (latest st)) (rest : cells.spare ≡ st.cells.spare) (at : t.stage ≡ Ending) (kind : t.kind ≡ Writer) where
     abbrev made_turn : Turn
     made_turn = record { seat = t.seat; kind = t.kind; stage = Made; writes = t.writes }
 
@@ -159,8 +170,13 @@ module _ (st : State) (sound : Sound st) (t : Turn) (turn_is : st.turn ≡ Some 
     will_not : will_make (Some (turn_part made_turn (st.number + 1) cells.items)) ≡ false
     will_not = ap (λ (k : Kind). is_writer k && not true) kind
 
+    all_places : length (places cells) ≡ max_cells
+    all_places = places_stay st.cells cells (ap (length {A = CellValue}) wrote ∙ applied_length (entries t.writes) (latest st)) rest ∙ sound.cells
+
     pub made_sound : Sound after
     made_sound = record {
+      cells = all_places;
+      count = items_fit cells max_cells all_places;
       seats = sound.seats;
       within = place;
       fits = ap is_writer kind;
@@ -208,6 +224,8 @@ module _ (st : State) (sound : Sound st) (free : st.turn ≡ None) (seat : ℕ) 
 
     pub taken_sound : Sound (taken_at st taker)
     taken_sound = record {
+      cells = sound.cells;
+      count = sound.count;
       seats = length-set st.waiting seat None ∙ sound.seats;
       within = at_place;
       fits = refl;

@@ -7,7 +7,8 @@ use Rattle.std.proofs.lemmas.Bool.{cases_Bool, cond-false, cond-true, eq-eqb, eq
 use Rattle.book.specs.Calls.{is_busy, numbers_taken}
 use Rattle.book.specs.Meaning.{Open, seat_part}
 use Rattle.book.specs.Progress.{SomeBusyMoves}
-use Rattle.book.specs.Sizes.{max_number, seat_count}
+use Rattle.book.specs.Sizes.{max_cells, max_number, seat_count}
+use Rattle.fixed_vec.specs.Listed.{places}
 use Rattle.serial.specs.declared.serial.Serial.{Serial}
 use Rattle.serial.specs.declared.state.State.{State}
 use Rattle.serial.specs.declared.state.Turn.{Turn}
@@ -18,6 +19,8 @@ use Rattle.serial.specs.States.{has_turn, latest, meaning_of, turn_part, turn_se
 -- what the engine's type says of its state
 abbrev pub Sound : State → Type 0
 Sound st = record {
+  cells : length (places st.cells) ≡ max_cells;
+  count : length st.cells.items ≤ max_cells;
   seats : length st.waiting ≡ seat_count;
   within : turn_seat st.turn < seat_count;
   fits : turn_room st.turn ≡ true;
@@ -25,7 +28,7 @@ Sound st = record {
 }
 
 pub sound_of : (e : Serial) → Sound e.state
-sound_of e = record { seats = e.seats; within = e.within; fits = e.fits; room = e.room }
+sound_of e = record { cells = e.cells; count = e.count; seats = e.seats; within = e.within; fits = e.fits; room = e.room }
 
 -- the parts of the seats in the meaning, one by one
 module _ (st : State) (sized : length st.waiting ≡ 8) where

@@ -3,7 +3,7 @@ ghost use Rattle.serial.specs.Laws.{seats_sized, someone_moves, sound_of};
 
 use crate::serial::Serial;
 use crate::state::{Cells, Stage};
-use book::{Call, Engine, Kind, Refusal, Seat, Standing, Value, Word, Write};
+use book::{Call, Engine, Kind, MAX_CELLS, Refusal, Seat, Standing, Value, Word, Write};
 
 impl Engine for Serial {
     const BOUND: u32 = 2;
@@ -17,14 +17,17 @@ impl Engine for Serial {
     ghost sized = { λ e. seats_sized e.state e.seats };
 
     fn start(version: u32, cells: &[Value]) -> Result<Serial, Refusal> {
-        if cells.is_empty() {
+        if cells.is_empty() || cells.len() > MAX_CELLS {
             return Err(Refusal::CellCount);
         }
-        let cells = Cells::from_slice(cells, 0).or(Err(Refusal::CellCount))?;
         if version % 2 == 0 {
             return Err(Refusal::EvenVersion);
         }
-        Ok(Serial::with_cells(version / 2, cells))
+        // The cells fit, as their count was tested.
+        match Cells::from_slice(cells, 0) {
+            Ok(cells) => Ok(Serial::with_cells(version / 2, cells)),
+            Err(_) => unreachable(),
+        }
     }
 
     fn open(&mut self, kind: Kind, seat: u32) -> Result<(), Refusal> {

@@ -1,9 +1,10 @@
 // What the engine does, once it is known that it may.
-ghost use Rattle.std.specs.Prelude.{◌≡◌, ◌≤◌, true, false, [], is_some, Some, None, slice_get};
+ghost use Rattle.std.specs.Prelude.{◌≡◌, ◌≤◌, true, false, [], length, is_some, Some, None, slice_get};
 ghost use Rattle.book.specs.declared.call.Call.TheVariants.{End, Open, Step};
 ghost use Rattle.book.specs.Calls.{has_made, refusal_of};
 ghost use Rattle.book.specs.Effects.{Accepts};
-ghost use Rattle.book.specs.Sizes.{max_number};
+ghost use Rattle.book.specs.Sizes.{max_cells, max_number};
+ghost use Rattle.fixed_vec.specs.Listed.{places};
 ghost use Rattle.serial.specs.Moves.{Asked, fresh, SeatSteps, TurnSteps};
 ghost use Rattle.serial.specs.Rooms.{stage_room};
 ghost use Rattle.serial.specs.declared.state.Turn.{Turn};
@@ -17,7 +18,8 @@ use book::{Kind, SEATS, Seat, Value, Word, WriteSet};
 impl Serial {
     // A book with these cells and this number, all of its seats free.
     pub(crate) fn with_cells(number: u32, cells: Cells) -> Serial
-        requires { number ≤ max_number }
+        requires whole { length (places cells) ≡ max_cells }
+        requires room { number ≤ max_number }
         ensures { meaning_of result.state ≡ fresh number cells.items (meaning_of result.state).waits }
     {
         Serial {

@@ -38,10 +38,12 @@ impl State {
     pub(crate) fn will_make(&self, seat: Seat) -> bool
         ensures { result ≡ will_make (part_at self.now seat) }
     {
-        let waits_to_write = self.waiting[seat.index()] == Some(Kind::Writer);
-        self.turn_of(seat).map_or(waits_to_write, |turn| {
-            turn.kind == Kind::Writer && !turn.has_made()
-        })
+        // Read ahead of the match, so that a count over all seats has no branch for it.
+        let waiting = self.waiting[seat.index()];
+        match &self.turn {
+            Some(turn) if turn.seat == seat => turn.kind == Kind::Writer && !turn.has_made(),
+            _ => waiting == Some(Kind::Writer),
+        }
     }
 }
 

@@ -59,6 +59,7 @@ impl State {
         requires { self.old.number < max_number }
         ensures after { self.new ≡ committed_at self.old self.new.cells turn }
         ensures wrote { latest self.new ≡ applied (entries turn.writes) (latest self.old) }
+        ensures rest { self.new.cells.spare ≡ self.old.cells.spare }
         ensures answer { result ≡ (Made, self.old.number + 1) }
     {
         write_all(&mut self.cells, turn.writes.as_slice());
@@ -83,7 +84,8 @@ impl State {
 
 // Writes each value into its cell, as far as the cells go. Of two for one cell the first of the list stays.
 fn write_all(cells: &mut Cells, writes: &[Write])
-    ensures { cells.new.items ≡ applied writes.now cells.old.items }
+    ensures wrote { cells.new.items ≡ applied writes.now cells.old.items }
+    ensures rest { cells.new.spare ≡ cells.old.spare }
 {
     for write in writes.iter().rev() {
         cells.set(write.cell as usize, write.value);

@@ -1,4 +1,4 @@
-ghost use Rattle.std.specs.Prelude.{Some};
+ghost use Rattle.std.specs.Prelude.{◌≡◌, Some};
 ghost use Rattle.std.specs.Result.{result_ok};
 ghost use Rattle.sheet.specs.Readings.{ReadsEngine};
 ghost use Rattle.sheet.specs.Texts.{engine_name};
@@ -24,13 +24,22 @@ impl TryFrom<char> for EngineChoice {
     }
 }
 
+impl EngineChoice {
+    // The word that names the engine.
+    fn name(self) -> &'static str
+        ensures { result.now ≡ engine_name self }
+    {
+        match self {
+            EngineChoice::Pessimistic => "pessimistic",
+            EngineChoice::Serial => "serial",
+        }
+    }
+}
+
 impl fmt::Display for EngineChoice {
     ghost output = { λ engine. Some (engine_name engine) };
 
     fn fmt<W: fmt::Write>(&self, f: &mut fmt::Formatter<W>) -> fmt::Result {
-        f.write_str(match self {
-            EngineChoice::Pessimistic => "pessimistic",
-            EngineChoice::Serial => "serial",
-        })
+        f.write_str(self.name())
     }
 }

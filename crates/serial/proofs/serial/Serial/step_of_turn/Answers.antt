@@ -40,12 +40,12 @@ commit-requires c =
 pub invariant_of-self-in-Writer : goal.invariant_of-self-in-Writer
 invariant_of-self-in-Writer c =
     let e = c.args.self.now in
-    subst Sound (sym c.commit.ensures.after) (made_sound e.state (sound_of e) c.args.turn c.requires.turn c.commit.new.self.cells c.commit.ensures.wrote c.in-Ending.is c.in-Writer.is)
+    subst Sound (sym c.commit.ensures.after) (made_sound e.state (sound_of e) c.args.turn c.requires.turn c.commit.new.self.cells c.commit.ensures.wrote c.commit.ensures.rest c.in-Ending.is c.in-Writer.is)
 
 pub returns-in-Writer : goal.returns-in-Writer
 returns-in-Writer c =
     let e = c.args.self.now in
-    steps_to _ _ _ _ _ _ _ c.commit.ensures.answer c.commit.ensures.after (makes_now e.state (sound_of e) c.args.turn c.requires.turn c.commit.new.self.cells c.commit.ensures.wrote c.in-Ending.is c.in-Writer.is)
+    steps_to _ _ _ _ _ _ _ c.commit.ensures.answer c.commit.ensures.after (makes_now e.state (sound_of e) c.args.turn c.requires.turn c.commit.new.self.cells c.commit.ensures.wrote c.commit.ensures.rest c.in-Ending.is c.in-Writer.is)
 
 pub invariant_of-self-in-Reader : goal.invariant_of-self-in-Reader
 invariant_of-self-in-Reader c =
